@@ -1,0 +1,49 @@
+//! How a chip is set up.
+ghost use Rattle.std.specs.Prelude.{◌≡◌, ◌≤◌, ◌%◌, length, true};
+ghost use Rattle.std.specs.List.{list_all};
+ghost use Rattle.chip_base.specs.Ranges.{is_delay};
+
+/// The settings of a chip: the clock in hertz, the sizes of IMEM and DMEM in bytes, the prescaler and baud divisor that the
+/// boot monitor gives UART0, whether a flash is fitted, and the delay of each unit's links in cycles (uart0, uart1, spi, gpio,
+/// pwm, slink, wdt).
+#[derive(Clone, Copy, Debug, Drop, PartialEq)]
+pub struct Setup {
+    pub clock: u32,
+    pub imem: u32,
+    pub dmem: u32,
+    pub prescaler: u8,
+    pub baud: u16,
+    pub flash: bool,
+    pub delay: [u32; 7],
+    pub ghost clock_from: { 1 ≤ clock },
+    pub ghost clock_to: { clock ≤ 4294967295 },
+    pub ghost imem_from: { 4096 ≤ imem },
+    pub ghost imem_to: { imem ≤ 1048576 },
+    pub ghost imem_pages: { imem % 4096 ≡ 0 },
+    pub ghost dmem_from: { 4096 ≤ dmem },
+    pub ghost dmem_to: { dmem ≤ 1048576 },
+    pub ghost dmem_pages: { dmem % 4096 ≡ 0 },
+    pub ghost prescaler_to: { prescaler ≤ 7 },
+    pub ghost baud_to: { baud ≤ 1023 },
+    pub ghost lanes: { length delay ≡ 7 },
+    pub ghost delays: { list_all is_delay delay ≡ true },
+}
+
+impl Setup {
+    ghost use Rattle.chip_base.specs.Settings.{standard, values_of};
+
+    /// The settings of a chip without a chip file.
+    pub fn standard() -> Setup
+        ensures { values_of result ≡ standard }
+    {
+        Setup {
+            clock: 64_000_000,
+            imem: 65_536,
+            dmem: 65_536,
+            prescaler: 0,
+            baud: 277,
+            flash: true,
+            delay: [32, 32, 8, 8, 32, 8, 64],
+        }
+    }
+}

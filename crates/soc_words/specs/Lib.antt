@@ -1,0 +1,4 @@
+pub mod Causes
+pub mod Line
+pub mod Text
+pub mod Word

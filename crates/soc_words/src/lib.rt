@@ -1,0 +1,2 @@
+//! Definitions that the contracts of several crates share: words, counts of faults, texts and delay lines.
+#![tactic(auto)]
