@@ -1,0 +1,169 @@
+//! The two memories.
+ghost use Rattle.std.specs.Prelude.{◌≡◌, ℕ, ◌+◌, ◌-◌, ◌*◌, ◌%◌, ◌^◌, ◌<◌, ◌≤◌, length, drop, ◌++◌, Some, slice_range, slice_index, IfOk, IfErr, OnOk, OnErr, ◌⊎◌};
+ghost use Rattle.std.specs.Int.{w32, to_le_bytes};
+ghost use Rattle.soc_bus.specs.Access.{width_bytes};
+ghost use Rattle.soc_bus.specs.Memory.{Memories, IsSize, byte_at, load_of, part_of, store_of, stored_part, zeros};
+ghost use Rattle.soc_bus.specs.Words.{bytes_of};
+ghost use Rattle.std.specs.Vec.{vec_len};
+
+use crate::access::{BusFault, Width};
+use crate::word_parts::{read, write};
+use chip_base::NoMemory;
+use std::alloc::Global;
+use std::marker::Model;
+
+/// Where the data memory begins.
+const DMEM: u32 = 0x8000_0000;
+
+/// The instruction memory from address 0 on and the data memory from address 80000000 (hexadecimal) on, seen as their bytes.
+/// Words stand with their low byte first.
+#[derive(Debug, Drop)]
+pub struct Memory {
+    imem: Vec<u32>,
+    dmem: Vec<u32>,
+}
+
+impl Model for Memory {
+    ghost use Rattle.std.specs.Prelude.{◌*◌};
+    ghost use Rattle.std.specs.Vec.{vec_len};
+    ghost use Rattle.soc_bus.specs.Memory.{Memories, IsSize};
+    ghost use Rattle.soc_bus.specs.Words.{bytes_of};
+
+    ghost Value = { Memories };
+
+    ghost view = { λ m. record { imem = bytes_of m.imem.items; dmem = bytes_of m.dmem.items } };
+
+    ghost invariant = { λ m. IsSize (4 * vec_len m.imem) × IsSize (4 * vec_len m.dmem) };
+}
+
+impl Memory {
+    /// Memories of these sizes in bytes, all zero. The sizes are multiples of 4,096 from 4,096 to 1,048,576.
+    pub fn new(alloc: Global, imem: u32, dmem: u32) -> Result<Memory, NoMemory>
+        requires imem { IsSize imem }
+        requires dmem { IsSize dmem }
+        ensures imem { IfOk result (λ m. m.imem ≡ zeros imem) }
+        ensures dmem { IfOk result (λ m. m.dmem ≡ zeros dmem) }
+    {
+        let imem = cleared(alloc, (imem / 4) as usize)?;
+        let dmem = cleared(alloc, (dmem / 4) as usize)?;
+        Ok(Memory { imem, dmem })
+    }
+
+    /// The value of the bytes from an address on, with zeros above. Misaligned exactly where the address isn't a multiple of
+    /// the width, otherwise Unmapped exactly where not all bytes lie in one of the memories.
+    pub fn load(&self, addr: u32, width: Width) -> Result<u32, BusFault>
+        ensures { result ≡ load_of self.now addr width }
+    {
+        if addr % width.bytes() != 0 {
+            return Err(BusFault::Misaligned);
+        }
+        if addr < DMEM {
+            loaded(&self.imem, addr, width)
+        } else {
+            loaded(&self.dmem, addr - DMEM, width)
+        }
+    }
+
+    /// Stores the low bytes of a value from an address on. Misaligned exactly where the address isn't a multiple of the width,
+    /// otherwise Unmapped exactly where not all bytes lie in one of the memories. After a refusal nothing has changed.
+    pub fn store(&mut self, addr: u32, width: Width, value: u32) -> Result<(), BusFault>
+        ensures stored { OnOk result (store_of self.old addr width value ≡ Ok self.new) }
+        ensures refused { IfErr result (λ fault. store_of self.old addr width value ≡ Err fault) }
+        ensures unchanged { OnErr result (self.new ≡ self.old) }
+        ensures imem { length self.new.imem ≡ length self.old.imem }
+        ensures dmem { length self.new.dmem ≡ length self.old.dmem }
+    {
+        if addr % width.bytes() != 0 {
+            return Err(BusFault::Misaligned);
+        }
+        if addr < DMEM {
+            stored(&mut self.imem, addr, width, value)
+        } else {
+            stored(&mut self.dmem, addr - DMEM, width, value)
+        }
+    }
+
+    /// Puts bytes into IMEM from its beginning on.
+    #[tactic(auto, using(crate::proofs::Bytes::length_bytes_of))]
+    pub fn fill(&mut self, bytes: &[u8])
+        requires { length bytes.now ≤ length self.old.imem }
+        ensures imem { self.new.imem ≡ bytes.now ++ drop (length bytes.now) self.old.imem }
+        ensures dmem { self.new.dmem ≡ self.old.dmem }
+    {
+        overwrite(&mut self.imem, bytes);
+    }
+
+    /// The number of bytes of IMEM.
+    #[tactic(auto, using(crate::proofs::Bytes::length_bytes_of))]
+    pub fn imem_size(&self) -> u32
+        ensures value { result ≡ length self.now.imem }
+        ensures valid { IsSize result }
+    {
+        4 * self.imem.len() as u32
+    }
+
+    /// The number of bytes of DMEM.
+    #[tactic(auto, using(crate::proofs::Bytes::length_bytes_of))]
+    pub fn dmem_size(&self) -> u32
+        ensures value { result ≡ length self.now.dmem }
+        ensures valid { IsSize result }
+    {
+        4 * self.dmem.len() as u32
+    }
+}
+
+/// The value of the bytes from a place of a memory on.
+#[tactic(auto, using(crate::proofs::Bytes::length_bytes_of))]
+fn loaded(words: &[u32], at: u32, width: Width) -> Result<u32, BusFault>
+    requires aligned { at % width_bytes width ≡ 0 }
+    requires size { length words.now ≤ 262144 }
+    ensures { result ≡ part_of (bytes_of words.now) at width }
+{
+    if at as usize + width.bytes() as usize <= 4 * words.len() {
+        Ok(read(words, at, width))
+    } else {
+        Err(BusFault::Unmapped)
+    }
+}
+
+/// Stores the low bytes of a value from a place of a memory on.
+#[tactic(auto, using(crate::proofs::Bytes::length_bytes_of))]
+fn stored(words: &mut [u32], at: u32, width: Width, value: u32) -> Result<(), BusFault>
+    requires aligned { at % width_bytes width ≡ 0 }
+    requires size { length words.old ≤ 262144 }
+    ensures stored { OnOk result (stored_part (bytes_of words.old) at width value ≡ Ok (bytes_of words.new)) }
+    ensures refused { IfErr result (λ fault. stored_part (bytes_of words.old) at width value ≡ Err fault) }
+    ensures unchanged { OnErr result (words.new ≡ words.old) }
+{
+    if at as usize + width.bytes() as usize <= 4 * words.len() {
+        write(words, at, width, value);
+        Ok(())
+    } else {
+        Err(BusFault::Unmapped)
+    }
+}
+
+/// Puts bytes into a memory from its beginning on.
+fn overwrite(words: &mut [u32], bytes: &[u8])
+    requires room { length bytes.now ≤ 4 * length words.old }
+    requires size { length words.old ≤ 262144 }
+    ensures { bytes_of words.new ≡ bytes.now ++ drop (length bytes.now) (bytes_of words.old) }
+{
+    let mut at = 0;
+    for byte in bytes {
+        write(words, at, Width::Byte, u32::from(*byte));
+        at += 1;
+    }
+}
+
+/// So many zero words.
+fn cleared(alloc: Global, count: usize) -> Result<Vec<u32>, NoMemory>
+    ensures items { IfOk result (λ v. bytes_of v.items ≡ zeros (4 * count)) }
+    ensures len { IfOk result (λ v. vec_len v ≡ count) }
+{
+    let mut words = Vec::new(alloc);
+    let Ok(()) = words.resize(count, 0) else {
+        return Err(NoMemory);
+    };
+    Ok(words)
+}
