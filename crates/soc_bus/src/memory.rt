@@ -1,8 +1,8 @@
 //! The two memories.
-ghost use Rattle.std.specs.Prelude.{◌≡◌, ℕ, ◌+◌, ◌-◌, ◌*◌, ◌%◌, ◌^◌, ◌<◌, ◌≤◌, length, drop, ◌++◌, Some, slice_range, slice_index, IfOk, IfErr, OnOk, OnErr, ◌⊎◌};
-ghost use Rattle.std.specs.Int.{w32, to_le_bytes};
+ghost use Rattle.std.specs.Prelude.{◌≡◌, ℕ, ◌+◌, ◌-◌, ◌*◌, ◌%◌, ◌^◌, ◌<◌, ◌≤◌, length, drop, ◌++◌, slice_range, IfOk, IfErr, OnOk, OnErr, IfSome, ◌⊎◌};
+ghost use Rattle.std.specs.List.{slice_get};
 ghost use Rattle.soc_bus.specs.Access.{width_bytes};
-ghost use Rattle.soc_bus.specs.Memory.{Memories, IsSize, byte_at, load_of, part_of, store_of, stored_part, zeros};
+ghost use Rattle.soc_bus.specs.Memory.{Memories, IsSize, byte_at, held_by, load_of, low_bytes, part_of, place_of, store_of, stored_part, zeros};
 ghost use Rattle.soc_bus.specs.Words.{bytes_of};
 ghost use Rattle.std.specs.Vec.{vec_len};
 
@@ -38,11 +38,13 @@ impl Model for Memory {
 
 impl Memory {
     /// Memories of these sizes in bytes, all zero. The sizes are multiples of 4,096 from 4,096 to 1,048,576.
+    #[tactic(auto, using(crate::proofs::Bytes::length_bytes_of))]
     pub fn new(alloc: Global, imem: u32, dmem: u32) -> Result<Memory, NoMemory>
         requires imem { IsSize imem }
         requires dmem { IsSize dmem }
         ensures imem { IfOk result (λ m. m.imem ≡ zeros imem) }
         ensures dmem { IfOk result (λ m. m.dmem ≡ zeros dmem) }
+        ensures sizes { IfOk result (λ m. (length m.imem ≡ imem) × (length m.dmem ≡ dmem)) }
     {
         let imem = cleared(alloc, (imem / 4) as usize)?;
         let dmem = cleared(alloc, (dmem / 4) as usize)?;
@@ -52,7 +54,10 @@ impl Memory {
     /// The value of the bytes from an address on, with zeros above. Misaligned exactly where the address isn't a multiple of
     /// the width, otherwise Unmapped exactly where not all bytes lie in one of the memories.
     pub fn load(&self, addr: u32, width: Width) -> Result<u32, BusFault>
-        ensures { result ≡ load_of self.now addr width }
+        ensures value { result ≡ load_of self.now addr width }
+        ensures below { IfOk result (λ v. v < 2 ^ (8 * width_bytes width)) }
+        ensures bytes { IfOk result (λ w. IfSome (place_of self.now addr (width_bytes width))
+            (λ p. low_bytes width w ≡ slice_range (held_by self.now p.0) p.1 (p.1 + width_bytes width))) }
     {
         if addr % width.bytes() != 0 {
             return Err(BusFault::Misaligned);
@@ -70,6 +75,9 @@ impl Memory {
         ensures stored { OnOk result (store_of self.old addr width value ≡ Ok self.new) }
         ensures refused { IfErr result (λ fault. store_of self.old addr width value ≡ Err fault) }
         ensures unchanged { OnErr result (self.new ≡ self.old) }
+        ensures kept { (a : ℕ) → (a < addr) ⊎ (addr + width_bytes width ≤ a) → byte_at self.new a ≡ byte_at self.old a }
+        ensures written { OnOk result ((a : ℕ) → addr ≤ a → a < addr + width_bytes width
+            → byte_at self.new a ≡ slice_get (low_bytes width value) (a - addr)) }
         ensures imem { length self.new.imem ≡ length self.old.imem }
         ensures dmem { length self.new.dmem ≡ length self.old.dmem }
     {
@@ -117,7 +125,9 @@ impl Memory {
 fn loaded(words: &[u32], at: u32, width: Width) -> Result<u32, BusFault>
     requires aligned { at % width_bytes width ≡ 0 }
     requires size { length words.now ≤ 262144 }
-    ensures { result ≡ part_of (bytes_of words.now) at width }
+    ensures value { result ≡ part_of (bytes_of words.now) at width }
+    ensures below { IfOk result (λ v. v < 2 ^ (8 * width_bytes width)) }
+    ensures bytes { IfOk result (λ w. low_bytes width w ≡ slice_range (bytes_of words.now) at (at + width_bytes width)) }
 {
     if at as usize + width.bytes() as usize <= 4 * words.len() {
         Ok(read(words, at, width))
@@ -127,13 +137,17 @@ fn loaded(words: &[u32], at: u32, width: Width) -> Result<u32, BusFault>
 }
 
 /// Stores the low bytes of a value from a place of a memory on.
-#[tactic(auto, using(crate::proofs::Bytes::length_bytes_of))]
+#[tactic(auto, using(crate::proofs::Bytes::length_bytes_of, crate::proofs::Places::get_kept, crate::proofs::Places::get_written))]
 fn stored(words: &mut [u32], at: u32, width: Width, value: u32) -> Result<(), BusFault>
     requires aligned { at % width_bytes width ≡ 0 }
     requires size { length words.old ≤ 262144 }
     ensures stored { OnOk result (stored_part (bytes_of words.old) at width value ≡ Ok (bytes_of words.new)) }
     ensures refused { IfErr result (λ fault. stored_part (bytes_of words.old) at width value ≡ Err fault) }
     ensures unchanged { OnErr result (words.new ≡ words.old) }
+    ensures kept { (i : ℕ) → (i < at) ⊎ (at + width_bytes width ≤ i)
+        → slice_get (bytes_of words.new) i ≡ slice_get (bytes_of words.old) i }
+    ensures written { OnOk result ((i : ℕ) → at ≤ i → i < at + width_bytes width
+        → slice_get (bytes_of words.new) i ≡ slice_get (low_bytes width value) (i - at)) }
 {
     if at as usize + width.bytes() as usize <= 4 * words.len() {
         write(words, at, width, value);

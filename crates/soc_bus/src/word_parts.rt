@@ -1,5 +1,5 @@
 //! Bytes in a list of words.
-ghost use Rattle.std.specs.Prelude.{◌≡◌, ℕ, ◌+◌, ◌*◌, ◌%◌, ◌≤◌, length, slice_range};
+ghost use Rattle.std.specs.Prelude.{◌≡◌, ℕ, ◌+◌, ◌*◌, ◌%◌, ◌^◌, ◌<◌, ◌≤◌, length, slice_range};
 ghost use Rattle.std.specs.Int.{w32, to_le_bytes};
 ghost use Rattle.soc_bus.specs.Access.{width_bytes};
 ghost use Rattle.soc_bus.specs.Words.{bytes_of};
@@ -11,7 +11,9 @@ use crate::access::Width;
 pub fn read(words: &[u32], at: u32, width: Width) -> u32
     requires aligned { at % width_bytes width ≡ 0 }
     requires room { at + width_bytes width ≤ 4 * length words.now }
-    ensures { result ≡ value_in width (slice_range (bytes_of words.now) at (at + width_bytes width)) }
+    ensures below { result < 2 ^ (8 * width_bytes width) }
+    ensures value { result ≡ value_in width (slice_range (bytes_of words.now) at (at + width_bytes width)) }
+    ensures bytes { low_bytes width result ≡ slice_range (bytes_of words.now) at (at + width_bytes width) }
 {
     let word = words[(at / 4) as usize];
     part(word, (at % 4) as usize, width)
@@ -20,7 +22,9 @@ pub fn read(words: &[u32], at: u32, width: Width) -> u32
 fn part(word: u32, low: usize, width: Width) -> u32
     requires aligned { low % width_bytes width ≡ 0 }
     requires room { low + width_bytes width ≤ 4 }
-    ensures { result ≡ value_in width (slice_range (to_le_bytes w32 word) low (low + width_bytes width)) }
+    ensures below { result < 2 ^ (8 * width_bytes width) }
+    ensures value { result ≡ value_in width (slice_range (to_le_bytes w32 word) low (low + width_bytes width)) }
+    ensures bytes { low_bytes width result ≡ slice_range (to_le_bytes w32 word) low (low + width_bytes width) }
 {
     let bytes = word.to_le_bytes();
     match width {

@@ -9,4 +9,9 @@ returns c =
     let at = c.args.at in
     let room : at % 4 + width_bytes c.args.width ≤ 4 = in_word c.args.width at c.requires.aligned in
     let within : at / 4 < length c.args.words.now = omega (arith, has_bytes c.args.width) in
-    c.part.ensures ∙ sym (ap (value_in c.args.width) (slice_bytes_of c.args.words.now (at / 4) (at % 4) at (width_bytes c.args.width) (omega arith) within room))
+    let same = slice_bytes_of c.args.words.now (at / 4) (at % 4) at (width_bytes c.args.width) (omega arith) within room in
+    record {
+        value = c.part.ensures.value ∙ sym (ap (value_in c.args.width) same);
+        below = c.part.ensures.below;
+        bytes = c.part.ensures.bytes ∙ sym same;
+    }
