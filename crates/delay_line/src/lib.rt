@@ -1,0 +1,9 @@
+//! Links of a fixed delay: what is sent in a cycle arrives that many cycles later.
+#![tactic(auto)]
+
+pub mod line;
+
+pub use line::DelayLine;
+
+#[cfg(test)]
+mod tests;
