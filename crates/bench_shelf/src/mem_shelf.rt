@@ -1,0 +1,137 @@
+//! A shelf in memory.
+ghost use Rattle.std.specs.Prelude.{◌≡◌, ℕ, ◌<◌, List, Option, Some, None, true, length, map, take, IfSome, IsNone, IfOk, OnOk, OnErr, slice_get, string_bytes};
+ghost use Rattle.std.specs.Option.{option_map};
+ghost use Rattle.bench_shelf.specs.Files.{file_in};
+
+use crate::shelf::{Shelf, ShelfFault};
+use std::alloc::Global;
+
+/// A shelf that keeps its files in memory, and whose reads and writes of given numbers fail.
+#[derive(Drop)]
+pub struct MemShelf {
+    alloc: Global,
+    files: Vec<(String, Vec<u8>)>,
+    failing_reads: Vec<u64>,
+    failing_writes: Vec<u64>,
+    reads: u64,
+    writes: u64,
+    read_faults: u64,
+    write_faults: u64,
+}
+
+impl MemShelf {
+    /// A shelf with these files, by name and bytes. Where two have one name, the first counts. The reads of the numbers in
+    /// `failing_reads` and the writes of those in `failing_writes`, each counted from 1, fail.
+    pub fn new(
+        alloc: Global,
+        files: Vec<(String, Vec<u8>)>,
+        failing_reads: Vec<u64>,
+        failing_writes: Vec<u64>,
+    ) -> MemShelf
+        ensures files { result.files ≡ files }
+        ensures numbers_of_reads { result.failing_reads ≡ failing_reads }
+        ensures numbers_of_writes { result.failing_writes ≡ failing_writes }
+        ensures no_reads { result.reads ≡ 0 }
+        ensures no_writes { result.writes ≡ 0 }
+        ensures no_read_faults { result.read_faults ≡ 0 }
+        ensures no_write_faults { result.write_faults ≡ 0 }
+    {
+        MemShelf {
+            alloc,
+            files,
+            failing_reads,
+            failing_writes,
+            reads: 0,
+            writes: 0,
+            read_faults: 0,
+            write_faults: 0,
+        }
+    }
+
+    /// Lends the bytes of the first file of a name. None exactly where no file has the name.
+    pub fn file(&self, name: &str) -> Option<&[u8]>
+        ensures { option_map (λ bytes. bytes.now) result ≡ file_in self.now.files.items name.now }
+    {
+        let index = position(&self.files, name)?;
+        Some(self.files[index].1.as_slice())
+    }
+}
+
+/// The place of the first file of a name.
+fn position(files: &[(String, Vec<u8>)], name: &str) -> Option<usize>
+    ensures found { IfSome result (λ i. (i < length files.now) × (file_in (take i files.now) name.now ≡ None)
+        × (option_map (λ file. string_bytes file.0) (slice_get files.now i) ≡ Some name.now)) }
+    ensures missing { IsNone result → file_in files.now name.now ≡ None }
+{
+    for index in 0..files.len() {
+        if files[index].0.as_str() == name {
+            return Some(index);
+        }
+    }
+    None
+}
+
+/// Makes the first file of a name these bytes, or puts it behind the others where no file has the name.
+fn put(
+    alloc: Global,
+    files: &mut Vec<(String, Vec<u8>)>,
+    name: &str,
+    bytes: Vec<u8>,
+) -> Result<(), ShelfFault>
+    ensures written { OnOk result (file_in files.new.items name.now ≡ Some bytes.items) }
+    ensures others { (q : List ℕ) → (q ≡ name.now → ⊥) → file_in files.new.items q ≡ file_in files.old.items q }
+    ensures same { OnErr result (files.new.items ≡ files.old.items) }
+    ensures memory { OnErr result (result ≡ Err ShelfFault.Memory) }
+{
+    if let Some(index) = position(files, name) {
+        files[index].1 = bytes;
+        return Ok(());
+    }
+    let Ok(owned) = String::from_str(alloc, name) else {
+        return Err(ShelfFault::Memory);
+    };
+    if files.push((owned, bytes)).is_err() {
+        return Err(ShelfFault::Memory);
+    }
+    Ok(())
+}
+
+impl Shelf for MemShelf {
+    ghost told = { λ _. true };
+
+    ghost file = { λ s q. file_in s.files.items q };
+
+    ghost read_faults = { λ s. s.read_faults };
+
+    ghost write_faults = { λ s. s.write_faults };
+
+    fn read(&mut self, alloc: Global, name: &str, limit: u32) -> Result<Vec<u8>, ShelfFault> {
+        self.reads = self.reads.saturating_add(1);
+        let Some(bytes) = self.file(name) else {
+            return Err(ShelfFault::Failed);
+        };
+        if self.failing_reads.contains(&self.reads) {
+            self.read_faults = self.read_faults.saturating_add(1);
+            return Err(ShelfFault::Failed);
+        }
+        if bytes.len() > limit as usize {
+            return Err(ShelfFault::Long { limit });
+        }
+        match Vec::from_slice(alloc, bytes) {
+            Ok(copy) => Ok(copy),
+            Err(_) => Err(ShelfFault::Memory),
+        }
+    }
+
+    fn write(&mut self, name: &str, bytes: &[u8]) -> Result<(), ShelfFault> {
+        self.writes = self.writes.saturating_add(1);
+        if self.failing_writes.contains(&self.writes) {
+            self.write_faults = self.write_faults.saturating_add(1);
+            return Err(ShelfFault::Failed);
+        }
+        let Ok(copy) = Vec::from_slice(self.alloc, bytes) else {
+            return Err(ShelfFault::Memory);
+        };
+        put(self.alloc, &mut self.files, name, copy)
+    }
+}

@@ -1,0 +1,41 @@
+//! A sink over a writer.
+ghost use Rattle.std.specs.Prelude.{◌≡◌, None};
+
+use crate::sink::{Sink, SinkFault};
+use std::io::Write;
+
+/// A sink over a writer, as standard output. It tells no bytes.
+#[derive(Drop)]
+pub struct OutSink<W: Write> {
+    inner: W,
+    faults: u64,
+}
+
+impl<W: Write> OutSink<W> {
+    /// A sink over this writer, without faults so far.
+    pub fn new(out: W) -> OutSink<W>
+        ensures writer { result.inner ≡ out }
+        ensures no_faults { result.faults ≡ 0 }
+    {
+        OutSink {
+            inner: out,
+            faults: 0,
+        }
+    }
+}
+
+impl<W: Write> Sink for OutSink<W> {
+    ghost written = { λ _. None };
+
+    ghost faults = { λ s. s.faults };
+
+    fn put(&mut self, bytes: &[u8]) -> Result<(), SinkFault> {
+        let written = self.inner.write_all(bytes);
+        let done = written.and_then(|_| self.inner.flush());
+        if done.is_err() {
+            self.faults = self.faults.saturating_add(1);
+            return Err(SinkFault::Failed);
+        }
+        Ok(())
+    }
+}
