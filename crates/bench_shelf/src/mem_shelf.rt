@@ -1,5 +1,5 @@
 //! A shelf in memory.
-ghost use Rattle.std.specs.Prelude.{◌≡◌, ℕ, ◌<◌, List, Option, Some, None, true, length, map, take, IfSome, IsNone, IfOk, OnOk, OnErr, slice_get, string_bytes};
+ghost use Rattle.std.specs.Prelude.{◌+◌, ◌-◌, ◌^◌, ◌≤◌, ◌↔◌, ◌⊎◌, min, Contains, IsSome, IsErrOf, vec_len, ◌≡◌, ℕ, ◌<◌, List, Option, Some, None, true, length, map, take, IfSome, IsNone, IfOk, OnOk, OnErr, slice_get, string_bytes};
 ghost use Rattle.std.specs.Option.{option_map};
 ghost use Rattle.bench_shelf.specs.Files.{file_in};
 
@@ -105,7 +105,19 @@ impl Shelf for MemShelf {
 
     ghost write_faults = { λ s. s.write_faults };
 
-    fn read(&mut self, alloc: Global, name: &str, limit: u32) -> Result<Vec<u8>, ShelfFault> {
+    fn read(&mut self, alloc: Global, name: &str, limit: u32) -> Result<Vec<u8>, ShelfFault>
+        ensures unchanged { self.new.files ≡ self.old.files }
+        ensures numbers { (self.new.failing_reads ≡ self.old.failing_reads) × (self.new.failing_writes ≡ self.old.failing_writes) }
+        ensures calls { (self.new.reads ≡ min (self.old.reads + 1) (2 ^ 64 - 1)) × (self.new.writes ≡ self.old.writes) }
+        ensures writes { self.new.write_faults ≡ self.old.write_faults }
+        ensures value { IfOk result (λ bytes. (file_in self.old.files.items name.now ≡ Some bytes.items) × (vec_len bytes ≤ limit)) }
+        ensures no_fault { (IsErrOf result ShelfFault.Failed → ⊥) → self.new.read_faults ≡ self.old.read_faults }
+        ensures missing { file_in self.old.files.items name.now ≡ None → (result ≡ Err ShelfFault.Failed) × (self.new.read_faults ≡ self.old.read_faults) }
+        ensures numbered { IsSome (file_in self.old.files.items name.now) → IsErrOf result ShelfFault.Failed ↔ Contains self.old.failing_reads.items self.new.reads }
+        ensures failed { IsErrOf result ShelfFault.Failed → (file_in self.old.files.items name.now ≡ None) ⊎ (self.new.read_faults ≡ min (self.old.read_faults + 1) (2 ^ 64 - 1)) }
+        ensures later { self.old.read_faults ≤ self.new.read_faults }
+        ensures long { (n : ℕ) → IsErrOf result (ShelfFault.Long n) → (n ≡ limit) × ((bytes : List ℕ) × (file_in self.old.files.items name.now ≡ Some bytes) × (limit < length bytes)) }
+    {
         self.reads = self.reads.saturating_add(1);
         let Some(bytes) = self.file(name) else {
             return Err(ShelfFault::Failed);
@@ -123,7 +135,19 @@ impl Shelf for MemShelf {
         }
     }
 
-    fn write(&mut self, name: &str, bytes: &[u8]) -> Result<(), ShelfFault> {
+    fn write(&mut self, name: &str, bytes: &[u8]) -> Result<(), ShelfFault>
+        ensures numbers { (self.new.failing_reads ≡ self.old.failing_reads) × (self.new.failing_writes ≡ self.old.failing_writes) }
+        ensures calls { (self.new.writes ≡ min (self.old.writes + 1) (2 ^ 64 - 1)) × (self.new.reads ≡ self.old.reads) }
+        ensures reads { self.new.read_faults ≡ self.old.read_faults }
+        ensures later { self.old.write_faults ≤ self.new.write_faults }
+        ensures no_fault { (IsErrOf result ShelfFault.Failed → ⊥) → self.new.write_faults ≡ self.old.write_faults }
+        ensures written { OnOk result (file_in self.new.files.items name.now ≡ Some bytes.now) }
+        ensures others { (q : List ℕ) → (q ≡ name.now → ⊥) → file_in self.new.files.items q ≡ file_in self.old.files.items q }
+        ensures refused { OnErr result (self.new.files.items ≡ self.old.files.items) }
+        ensures numbered { IsErrOf result ShelfFault.Failed ↔ Contains self.old.failing_writes.items self.new.writes }
+        ensures failed { IsErrOf result ShelfFault.Failed → self.new.write_faults ≡ min (self.old.write_faults + 1) (2 ^ 64 - 1) }
+        ensures never_long { (n : ℕ) → IsErrOf result (ShelfFault.Long n) → ⊥ }
+    {
         self.writes = self.writes.saturating_add(1);
         if self.failing_writes.contains(&self.writes) {
             self.write_faults = self.write_faults.saturating_add(1);

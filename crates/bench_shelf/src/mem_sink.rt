@@ -48,6 +48,8 @@ impl Sink for MemSink {
         ensures numbers { self.new.failing ≡ self.old.failing }
         ensures calls { self.new.calls ≡ min (self.old.calls + 1) (2 ^ 64 - 1) }
         ensures numbered { IsErrOf result SinkFault.Failed ↔ Contains self.old.failing.items self.new.calls }
+        ensures counted { IsErrOf result SinkFault.Failed → self.new.faults ≡ min (self.old.faults + 1) (2 ^ 64 - 1) }
+        ensures no_fault { (IsErrOf result SinkFault.Failed → ⊥) → self.new.faults ≡ self.old.faults }
         ensures refused { OnErr result (self.new.bytes.items ≡ self.old.bytes.items) }
     {
         self.calls = self.calls.saturating_add(1);

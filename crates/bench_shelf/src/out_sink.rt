@@ -1,5 +1,7 @@
 //! A sink over a writer.
-ghost use Rattle.std.specs.Prelude.{◌≡◌, None};
+ghost use Rattle.std.specs.Prelude.{◌≡◌, None, OnOk, IsErrOf};
+ghost use Rattle.std.specs.Io.KnownBytes.{Appends};
+ghost use Rattle.bench_shelf.specs.Sink.{Writes};
 
 use crate::sink::{Sink, SinkFault};
 use std::io::Write;
@@ -29,10 +31,12 @@ impl<W: Write> Sink for OutSink<W> {
 
     ghost faults = { λ s. s.faults };
 
-    fn put(&mut self, bytes: &[u8]) -> Result<(), SinkFault> {
-        let written = self.inner.write_all(bytes);
-        let done = written.and_then(|_| self.inner.flush());
-        if done.is_err() {
+    fn put(&mut self, bytes: &[u8]) -> Result<(), SinkFault>
+        ensures writes { Writes None None self.old.faults self.new.faults bytes.now result }
+        ensures passed_on { OnOk result (Appends (W.contents self.old.inner) (W.contents self.new.inner) bytes.now) }
+        ensures never_memory { IsErrOf result SinkFault.Memory → ⊥ }
+    {
+        if self.inner.write_all(bytes).is_err() || self.inner.flush().is_err() {
             self.faults = self.faults.saturating_add(1);
             return Err(SinkFault::Failed);
         }
