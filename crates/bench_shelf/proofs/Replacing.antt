@@ -1,5 +1,5 @@
 -- The first file of a name, and what stands there after it was replaced.
-use Rattle.std.proofs.Common.{◌≡◌, ℕ, suc, ◌+◌, ◌<◌, List, [], ◌∷◌, ◌++◌, length, get_or, take, drop, set, Option, Some, None, Bool, true, false, if◌then◌else◌, String, Vec, string_bytes, refl, ap, sym, ◌∙◌, arith, add-one, drop-cons, append-nil, slice_get}
+use Rattle.std.proofs.Common.{◌≡◌, ℕ, suc, ◌+◌, ◌<◌, List, [], ◌∷◌, ◌++◌, length, get_or, take, drop, set, Option, Some, None, Bool, true, false, if◌then◌else◌, String, Vec, string_bytes, refl, ap, sym, ◌∙◌, add-one, drop-cons, append-nil, slice_get}
 use Rattle.std.specs.Option.{option_map}
 use Rattle.std.proofs.lemmas.List.{take-append-drop, take-set, drop-set, take_more}
 use Rattle.std.proofs.lemmas.Option.{slice_get_read}

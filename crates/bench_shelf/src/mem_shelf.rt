@@ -1,6 +1,7 @@
 //! A shelf in memory.
-ghost use Rattle.std.specs.Prelude.{◌+◌, ◌-◌, ◌^◌, ◌≤◌, ◌↔◌, ◌⊎◌, min, Contains, IsSome, IsErrOf, vec_len, ◌≡◌, ℕ, ◌<◌, List, Option, Some, None, true, length, map, take, IfSome, IsNone, IfOk, OnOk, OnErr, slice_get, string_bytes};
+ghost use Rattle.std.specs.Prelude.{◌≡◌, ℕ, ◌<◌, ◌≤◌, ◌↔◌, ◌⊎◌, List, Option, Some, None, true, Contains, length, take, slice_get, vec_len, string_bytes, IsSome, IsNone, IfSome, IfOk, OnOk, OnErr, IsErrOf};
 ghost use Rattle.std.specs.Option.{option_map};
+ghost use Rattle.bench_shelf.specs.Counts.{counted};
 ghost use Rattle.bench_shelf.specs.Files.{file_in};
 
 use crate::shelf::{Shelf, ShelfFault};
@@ -106,15 +107,18 @@ impl Shelf for MemShelf {
     ghost write_faults = { λ s. s.write_faults };
 
     fn read(&mut self, alloc: Global, name: &str, limit: u32) -> Result<Vec<u8>, ShelfFault>
+        // the call is counted, and no more than that changes but the count of faults
         ensures unchanged { self.new.files ≡ self.old.files }
         ensures numbers { (self.new.failing_reads ≡ self.old.failing_reads) × (self.new.failing_writes ≡ self.old.failing_writes) }
-        ensures calls { (self.new.reads ≡ min (self.old.reads + 1) (2 ^ 64 - 1)) × (self.new.writes ≡ self.old.writes) }
+        ensures calls { (self.new.reads ≡ counted self.old.reads) × (self.new.writes ≡ self.old.writes) }
         ensures writes { self.new.write_faults ≡ self.old.write_faults }
+
+        // the first file of the name, if the read of this number doesn't fail and the file isn't too long
         ensures value { IfOk result (λ bytes. (file_in self.old.files.items name.now ≡ Some bytes.items) × (vec_len bytes ≤ limit)) }
         ensures no_fault { (IsErrOf result ShelfFault.Failed → ⊥) → self.new.read_faults ≡ self.old.read_faults }
         ensures missing { file_in self.old.files.items name.now ≡ None → (result ≡ Err ShelfFault.Failed) × (self.new.read_faults ≡ self.old.read_faults) }
         ensures numbered { IsSome (file_in self.old.files.items name.now) → IsErrOf result ShelfFault.Failed ↔ Contains self.old.failing_reads.items self.new.reads }
-        ensures failed { IsErrOf result ShelfFault.Failed → (file_in self.old.files.items name.now ≡ None) ⊎ (self.new.read_faults ≡ min (self.old.read_faults + 1) (2 ^ 64 - 1)) }
+        ensures failed { IsErrOf result ShelfFault.Failed → (file_in self.old.files.items name.now ≡ None) ⊎ (self.new.read_faults ≡ counted self.old.read_faults) }
         ensures later { self.old.read_faults ≤ self.new.read_faults }
         ensures long { (n : ℕ) → IsErrOf result (ShelfFault.Long n) → (n ≡ limit) × ((bytes : List ℕ) × (file_in self.old.files.items name.now ≡ Some bytes) × (limit < length bytes)) }
     {
@@ -136,8 +140,9 @@ impl Shelf for MemShelf {
     }
 
     fn write(&mut self, name: &str, bytes: &[u8]) -> Result<(), ShelfFault>
+        // the call is counted, and a write that is refused changes no more than that but the count of faults
         ensures numbers { (self.new.failing_reads ≡ self.old.failing_reads) × (self.new.failing_writes ≡ self.old.failing_writes) }
-        ensures calls { (self.new.writes ≡ min (self.old.writes + 1) (2 ^ 64 - 1)) × (self.new.reads ≡ self.old.reads) }
+        ensures calls { (self.new.writes ≡ counted self.old.writes) × (self.new.reads ≡ self.old.reads) }
         ensures reads { self.new.read_faults ≡ self.old.read_faults }
         ensures later { self.old.write_faults ≤ self.new.write_faults }
         ensures no_fault { (IsErrOf result ShelfFault.Failed → ⊥) → self.new.write_faults ≡ self.old.write_faults }
@@ -145,7 +150,7 @@ impl Shelf for MemShelf {
         ensures others { (q : List ℕ) → (q ≡ name.now → ⊥) → file_in self.new.files.items q ≡ file_in self.old.files.items q }
         ensures refused { OnErr result (self.new.files.items ≡ self.old.files.items) }
         ensures numbered { IsErrOf result ShelfFault.Failed ↔ Contains self.old.failing_writes.items self.new.writes }
-        ensures failed { IsErrOf result ShelfFault.Failed → self.new.write_faults ≡ min (self.old.write_faults + 1) (2 ^ 64 - 1) }
+        ensures failed { IsErrOf result ShelfFault.Failed → self.new.write_faults ≡ counted self.old.write_faults }
         ensures never_long { (n : ℕ) → IsErrOf result (ShelfFault.Long n) → ⊥ }
     {
         self.writes = self.writes.saturating_add(1);

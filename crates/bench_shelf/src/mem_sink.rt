@@ -1,5 +1,6 @@
 //! A sink in memory.
-ghost use Rattle.std.specs.Prelude.{◌≡◌, ◌+◌, ◌-◌, ◌^◌, min, ℕ, [], List, Option, Some, Contains, ◌↔◌, OnErr, IsErrOf};
+ghost use Rattle.std.specs.Prelude.{◌≡◌, ℕ, [], List, Option, Some, Contains, ◌↔◌, OnErr, IsErrOf};
+ghost use Rattle.bench_shelf.specs.Counts.{counted};
 ghost use Rattle.bench_shelf.specs.Sink.{Writes};
 
 use crate::sink::{Sink, SinkFault};
@@ -46,9 +47,9 @@ impl Sink for MemSink {
     fn put(&mut self, bytes: &[u8]) -> Result<(), SinkFault>
         ensures writes { Writes (Some self.old.bytes.items) (Some self.new.bytes.items) self.old.faults self.new.faults bytes.now result }
         ensures numbers { self.new.failing ≡ self.old.failing }
-        ensures calls { self.new.calls ≡ min (self.old.calls + 1) (2 ^ 64 - 1) }
+        ensures calls { self.new.calls ≡ counted self.old.calls }
         ensures numbered { IsErrOf result SinkFault.Failed ↔ Contains self.old.failing.items self.new.calls }
-        ensures counted { IsErrOf result SinkFault.Failed → self.new.faults ≡ min (self.old.faults + 1) (2 ^ 64 - 1) }
+        ensures counted { IsErrOf result SinkFault.Failed → self.new.faults ≡ counted self.old.faults }
         ensures no_fault { (IsErrOf result SinkFault.Failed → ⊥) → self.new.faults ≡ self.old.faults }
         ensures refused { OnErr result (self.new.bytes.items ≡ self.old.bytes.items) }
     {

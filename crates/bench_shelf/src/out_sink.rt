@@ -6,7 +6,8 @@ ghost use Rattle.bench_shelf.specs.Sink.{Writes};
 use crate::sink::{Sink, SinkFault};
 use std::io::Write;
 
-/// A sink over a writer, as standard output. It tells no bytes.
+/// A sink over a writer, as standard output. It tells no bytes. Each text is passed on whole and then flushed, and a writer that
+/// takes nothing, fails or can't be flushed counts as a fault.
 #[derive(Drop)]
 pub struct OutSink<W: Write> {
     inner: W,

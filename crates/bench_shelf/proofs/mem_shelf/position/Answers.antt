@@ -1,4 +1,4 @@
-use Rattle.std.proofs.Common.{◌≡◌, true, false, ap, sym, ◌∙◌, String, Vec, ℕ, string_bytes}
+use Rattle.std.proofs.Common.{ap, sym, ◌∙◌, string_bytes}
 use Rattle.std.proofs.lemmas.Slice.Eq.{bytes_eq-Decides}
 use Rattle.bench_shelf.proofs.Replacing.{File, none_so_far, named_at}
 use Rattle.bench_shelf.proofs.mem_shelf.position.Goals as goal

@@ -1,4 +1,4 @@
-use Rattle.std.proofs.Common.{◌≡◌, Some, true, not, ap, sym, ◌∙◌, refl, string_bytes, is_ok}
+use Rattle.std.proofs.Common.{◌≡◌, true, not, ap, sym, ◌∙◌, refl, is_ok}
 use Rattle.bench_shelf.specs.Files.{file_in}
 use Rattle.bench_shelf.proofs.Replacing.{File, replaced_found, replaced_others, behind_found, behind_others, name_at}
 use Rattle.bench_shelf.proofs.mem_shelf.put.Goals as goal

@@ -1,4 +1,4 @@
-use Rattle.std.proofs.Common.{◌≡◌, Some, ap, sym, ◌∙◌}
+use Rattle.std.proofs.Common.{Some, ap, sym, ◌∙◌}
 use Rattle.bench_shelf.proofs.Replacing.{first_found, name_at}
 use Rattle.bench_shelf.proofs.mem_shelf.MemShelf.file.Goals as goal
 

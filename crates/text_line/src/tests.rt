@@ -1,0 +1,33 @@
+use crate::Line;
+use std::test::Fail;
+
+#[test]
+fn a_line_takes_texts_numbers_and_digits(rt: HostRuntime) -> Result<(), Fail> {
+    let mut line = Line::new();
+    assert_eq!(rt; line.as_slice(), b"".as_slice());
+    line.push(b"x");
+    line.push_number(10);
+    line.push(b" ");
+    line.push_word(0x00c0_ffee);
+    line.push(b" ");
+    line.push_byte(0x0a);
+    line.push(b" ");
+    line.push_number(u64::MAX);
+    line.push(b" ");
+    line.push_bytes_hex(&[0x93, 0x00, 0x50, 0x00]);
+    line.push(b"\n");
+    let text = b"x10 00c0ffee 0a 18446744073709551615 93005000\n";
+    assert_eq!(rt; line.as_slice(), text.as_slice());
+    Ok(())
+}
+
+#[test]
+fn a_line_holds_128_bytes(rt: HostRuntime) -> Result<(), Fail> {
+    let mut line = Line::new();
+    line.push(&[b'a'; 96]);
+    line.push_bytes_hex(&[0xff; 16]);
+    let text = line.as_slice();
+    assert_eq!(rt; text.len(), 128);
+    assert!(rt; text.starts_with(b"aaaa") && text.ends_with(b"ffff"));
+    Ok(())
+}
