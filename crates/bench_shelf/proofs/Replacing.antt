@@ -8,6 +8,7 @@ use Rattle.std.specs.Str.{bytes_eq}
 use Rattle.std.specs.declared.alloc.Global.{Global}
 use Rattle.bench_shelf.specs.Files.{file_in}
 
+-- a name and its bytes
 abbrev pub File : Type 0
 File = String Global × Vec ℕ Global
 
@@ -15,6 +16,7 @@ is_false : (b : Bool) → (b ≡ true → ⊥) → b ≡ false
 is_false true h = absurd (h refl)
 is_false false h = refl
 
+-- a test that found nothing so far failed at this file too
 skipped : (b : Bool) (bytes : List ℕ) (rest longer other : Option (List ℕ)) → (if b then Some bytes else rest) ≡ None → (rest ≡ None → longer ≡ other)
     → (if b then Some bytes else longer) ≡ other
 skipped true bytes rest longer other none then_same = absurd (cc)
@@ -32,6 +34,7 @@ passed_over [] back file name other = rw (is_false (bytes_eq (string_bytes file.
 passed_over (first ∷ front) back file name other =
     ap (λ t. if bytes_eq (string_bytes first.0) name then Some first.1.items else t) (passed_over front back file name other)
 
+-- a file in front is found by its name
 pub has_name : (file : File) (back : List File) (name : List ℕ) → string_bytes file.0 ≡ name → file_in (file ∷ back) name ≡ Some file.1.items
 has_name file back name same = rw ((bytes_eq-Decides (string_bytes file.0) name).1 same) refl
 

@@ -8,11 +8,12 @@ use Rattle.bench_shelf.specs.declared.sink.SinkFault.{SinkFault}
 use Rattle.bench_shelf.specs.declared.sink.SinkFault.TheVariants.{Memory}
 use Rattle.bench_shelf.specs.Sink.{Writes}
 
+-- two texts appended in turn are their join appended
 pub appended_twice : (told : Option (List ℕ)) (a b : List ℕ) → appended (appended told a) b ≡ appended told (a ++ b)
 appended_twice None a b = refl
 appended_twice (Some xs) a b = ap Some (append_assoc xs a b)
 
--- a text, and then another
+-- a text was written, and then another
 pub writes_then : {a b c : Option (List ℕ)} {f g h : ℕ} {first second : List ℕ} {x : Unit {0}} (r : Result (Unit {0}) SinkFault)
     → Writes a b f g first (Ok x) → Writes b c g h second r → Writes a c f h (first ++ second) r
 writes_then {a = a} {first = first} {second = second} (Ok y) p q = record {
@@ -35,7 +36,7 @@ writes_then {a = a} {f = f} {h = h} {first = first} {second = second} (Err e) p 
   failed = λ e. subst (λ n. Rose n h) p.no_fault (q.failed e);
 }
 
--- what refused a text refused a longer one
+-- what was refused in a text was refused in a longer one
 pub writes_stop : {a b : Option (List ℕ)} {f g : ℕ} {first : List ℕ} {e : SinkFault} (second : List ℕ)
     → Writes a b f g first (Err e) → Writes a b f g (first ++ second) (Err e)
 writes_stop {first = first} second p = record {
@@ -51,6 +52,7 @@ writes_stop {first = first} second p = record {
   failed = λ e. p.failed (cc);
 }
 
+-- nothing appended changes nothing
 pub appended_none : (told : Option (List ℕ)) → told ≡ appended told []
 appended_none None = refl
 appended_none (Some xs) = ap Some (sym (append-nil xs))

@@ -118,7 +118,7 @@ impl Shelf for MemShelf {
         ensures no_fault { (IsErrOf result ShelfFault.Failed → ⊥) → self.new.read_faults ≡ self.old.read_faults }
         ensures missing { file_in self.old.files.items name.now ≡ None → (result ≡ Err ShelfFault.Failed) × (self.new.read_faults ≡ self.old.read_faults) }
         ensures numbered { IsSome (file_in self.old.files.items name.now) → IsErrOf result ShelfFault.Failed ↔ Contains self.old.failing_reads.items self.new.reads }
-        ensures failed { IsErrOf result ShelfFault.Failed → (file_in self.old.files.items name.now ≡ None) ⊎ (self.new.read_faults ≡ counted self.old.read_faults) }
+        ensures raised { IsErrOf result ShelfFault.Failed → (file_in self.old.files.items name.now ≡ None) ⊎ (self.new.read_faults ≡ counted self.old.read_faults) }
         ensures later { self.old.read_faults ≤ self.new.read_faults }
         ensures long { (n : ℕ) → IsErrOf result (ShelfFault.Long n) → (n ≡ limit) × ((bytes : List ℕ) × (file_in self.old.files.items name.now ≡ Some bytes) × (limit < length bytes)) }
     {
@@ -150,7 +150,7 @@ impl Shelf for MemShelf {
         ensures others { (q : List ℕ) → (q ≡ name.now → ⊥) → file_in self.new.files.items q ≡ file_in self.old.files.items q }
         ensures refused { OnErr result (self.new.files.items ≡ self.old.files.items) }
         ensures numbered { IsErrOf result ShelfFault.Failed ↔ Contains self.old.failing_writes.items self.new.writes }
-        ensures failed { IsErrOf result ShelfFault.Failed → self.new.write_faults ≡ counted self.old.write_faults }
+        ensures raised { IsErrOf result ShelfFault.Failed → self.new.write_faults ≡ counted self.old.write_faults }
         ensures never_long { (n : ℕ) → IsErrOf result (ShelfFault.Long n) → ⊥ }
     {
         self.writes = self.writes.saturating_add(1);

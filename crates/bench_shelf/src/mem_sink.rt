@@ -46,10 +46,11 @@ impl Sink for MemSink {
 
     fn put(&mut self, bytes: &[u8]) -> Result<(), SinkFault>
         ensures writes { Writes (Some self.old.bytes.items) (Some self.new.bytes.items) self.old.faults self.new.faults bytes.now result }
+        // the call is counted, and a call that is refused changes no more than that but the count of faults
         ensures numbers { self.new.failing ≡ self.old.failing }
         ensures calls { self.new.calls ≡ counted self.old.calls }
         ensures numbered { IsErrOf result SinkFault.Failed ↔ Contains self.old.failing.items self.new.calls }
-        ensures counted { IsErrOf result SinkFault.Failed → self.new.faults ≡ counted self.old.faults }
+        ensures raised { IsErrOf result SinkFault.Failed → self.new.faults ≡ counted self.old.faults }
         ensures no_fault { (IsErrOf result SinkFault.Failed → ⊥) → self.new.faults ≡ self.old.faults }
         ensures refused { OnErr result (self.new.bytes.items ≡ self.old.bytes.items) }
     {
