@@ -47,7 +47,9 @@ impl Hub {
     pub fn new(alloc: Global, setup: &Setup, boot: Boot, image: &[u8]) -> Result<Hub, NoMemory>
         requires raw { boot ≡ Raw }
         requires fits { length image.now ≤ setup.now.imem }
-        ensures { IfOk result (λ hub. hub ≡ start (values_of setup.now) image.now) }
+        ensures state { IfOk result (λ hub. hub ≡ start (values_of setup.now) image.now) }
+        ensures imem { IfOk result (λ hub. length hub.memory.imem ≡ setup.now.imem) }
+        ensures dmem { IfOk result (λ hub. length hub.memory.dmem ≡ setup.now.dmem) }
     {
         let mut memory = Memory::new(alloc, setup.imem, setup.dmem)?;
         memory.fill(image);
@@ -72,7 +74,8 @@ impl Hub {
 
     /// Begins a store of a word, where its four bytes lie in one of the memories.
     fn begin_store(&mut self, now: Cycle, word: u32, addr: u32, value: u32)
-        ensures { self.new ≡ stores self.old now word addr value }
+        ensures state { self.new ≡ stores self.old now word addr value }
+        ensures memory { self.new.memory ≡ self.old.memory }
     {
         if self.memory.load(addr, Width::Word).is_ok() {
             self.core.want_store(addr, value);
@@ -85,7 +88,8 @@ impl Hub {
         requires rd { i.now.rd < 32 }
         requires rs1 { i.now.rs1 < 32 }
         requires rs2 { i.now.rs2 < 32 }
-        ensures { self.new ≡ executed self.old now word i.now i.now.op }
+        ensures state { self.new ≡ executed self.old now word i.now i.now.op }
+        ensures memory { self.new.memory ≡ self.old.memory }
     {
         let first = self.core.regs[i.rs1 as usize];
         let second = self.core.regs[i.rs2 as usize];
@@ -102,7 +106,8 @@ impl Hub {
     }
 
     fn act(&mut self, now: Cycle)
-        ensures { self.new ≡ acted self.old now }
+        ensures state { self.new ≡ acted self.old now }
+        ensures memory { self.new.memory ≡ self.old.memory }
     {
         let Some(word) = self.fetch() else {
             self.unbuilt = Some((now, self.core.pc));
@@ -116,7 +121,8 @@ impl Hub {
     }
 
     fn take_turn(&mut self, now: Cycle)
-        ensures { self.new ≡ turn self.old now }
+        ensures state { self.new ≡ turn self.old now }
+        ensures memory { self.new.memory ≡ self.old.memory }
     {
         match self.core.phase {
             Phase::Run(0) => self.act(now),
@@ -126,7 +132,9 @@ impl Hub {
     }
 
     fn grant(&mut self)
-        ensures { self.new ≡ granted self.old }
+        ensures state { self.new ≡ granted self.old }
+        ensures imem { length self.new.memory.imem ≡ length self.old.memory.imem }
+        ensures dmem { length self.new.memory.dmem ≡ length self.old.memory.dmem }
     {
         let Phase::Want(request) = self.core.phase else {
             return;
@@ -139,10 +147,13 @@ impl Hub {
         }
     }
 
-    /// One cycle: core 0's turn, and then the grant of the store that it wants. Nothing goes down to a unit.
+    /// One cycle: core 0's turn, and then the grant of the store that it wants. Nothing goes down to a unit. The memories keep their
+    /// sizes.
     #[tactic(auto, unfolding(crate::specs::Cycle::hub_cycle))]
     pub fn cycle(&mut self, now: Cycle, ups: &[Option<Up>; 7]) -> [Option<Down>; 7]
-        ensures { record { hub = self.new; downs = result } ≡ hub_cycle self.old now ups.now }
+        ensures step { record { hub = self.new; downs = result } ≡ hub_cycle self.old now ups.now }
+        ensures imem { length self.new.memory.imem ≡ length self.old.memory.imem }
+        ensures dmem { length self.new.memory.dmem ≡ length self.old.memory.dmem }
     {
         if self.unbuilt.is_none() {
             self.take_turn(now);
