@@ -1,0 +1,24 @@
+use Rattle.std.proofs.Common.{◌≡◌, ◌/◌, length, arith, ap}
+use Rattle.soc_words.proofs.Texts.{joined_below-zero, joined_below-more}
+use Rattle.bench_shelf.proofs.Writing.{writes_begin, writes_then, loop_exit}
+use Rattle.neo_cli.specs.Bank.{base_of, bytes_of}
+use Rattle.neo_cli.specs.Report.{row_text_in}
+use Rattle.neo_cli.proofs.report.put_memory.Goals as goal
+
+pub loop-number-init : goal.loop-number-init
+loop-number-init g c = rw joined_below-zero (writes_begin _ _ _)
+
+pub loop-number-preserved : goal.loop-number-preserved
+loop-number-preserved g c = rw joined_below-more (writes_then _ c.loop-number.invariant (rw (c.row-row.ensures, c.base.ensures) at c.in_ok-put_row.ensures))
+
+pub returns-in_err-put_row : goal.returns-in_err-put_row
+returns-in_err-put_row g c =
+    let rows : length (bytes_of c.args.hub.now c.args.bank) / 16 ≡ 4096 = ap (λ n. n / 16) c.requires in
+    rw rows (loop_exit (row_text_in (base_of c.args.bank) (bytes_of c.args.hub.now c.args.bank)) c.loop-number.number 4096 c.from_residual.result (omega arith)
+    c.loop-number.invariant (rw (c.row-row.ensures, c.base.ensures) at c.in_err-put_row.ensures) c.from_residual.ensures.1)
+
+pub returns : goal.returns
+returns g c =
+    let rows : length (bytes_of c.args.hub.now c.args.bank) / 16 ≡ 4096 = ap (λ n. n / 16) c.requires in
+    let all : c.loop-number.number ≡ 4096 = omega (arith, c.loop-number-test.false, c.loop-number.auto.number-end) in
+    rw (rows, ← all) c.loop-number.invariant
