@@ -1,5 +1,5 @@
 -- An outcome that is told is the answer to the job.
-use Rattle.std.proofs.Common.{◌≢◌, arith, ◌≡◌, ℕ, inl, inr, ◌⊎◌, Bool, cond, List, [], ◌∷◌, ◌++◌, length, Option, refl, ap, sym, ◌∙◌}
+use Rattle.std.proofs.Common.{◌≢◌, arith, ◌≡◌, ℕ, inl, inr, Bool, cond, List, [], ◌∷◌, ◌++◌, length, Option, refl, ap, sym, ◌∙◌}
 use Rattle.std.specs.Prelude.{IsTrue}
 use Rattle.std.proofs.lemmas.Bool.{le-ltb, lt-ltb}
 use Rattle.soc_words.specs.Causes.{Rose, appended, AppendsBeginning}
@@ -7,7 +7,7 @@ use Rattle.neo_cli.specs.declared.outcome.Outcome.{Outcome}
 use Rattle.neo_cli.specs.declared.outcome.Outcome.TheVariants.{Unread, Long, NotBuilt, Ran, Memory}
 use Rattle.neo_cli.specs.Answer.{Answer, run_answer, file_answer, long_text, unread_text}
 use Rattle.neo_cli.specs.Outcome.{told_answer, RunsFile, IsLong, Decides, Tells}
-use Rattle.neo_cli.specs.Told.{Completes, IsAnswered, IsCutShort, IsWantOfMemory, Refuses, IsRefused, IsRun}
+use Rattle.neo_cli.specs.Told.{Completes, IsAnswered, IsCutShort, IsWantOfMemory, IsRefused, IsRun}
 
 -- what is told with no fault is told whole
 pub complete_from : (wanted : Answer) (old new : Option (List ℕ)) (before now status : ℕ) → Tells wanted old new before now status → (Rose before now → ⊥) → Completes wanted old new status

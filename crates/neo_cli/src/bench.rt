@@ -2,7 +2,8 @@
 ghost use Rattle.std.specs.Prelude.{◌≡◌, ℕ, ◌≤◌, ◌⊎◌, List, Option, Some, None, IsTrue, map, string_bytes, IfSome};
 ghost use Rattle.soc_words.specs.Causes.{Rose};
 ghost use Rattle.neo_cli.specs.Job.{job_of};
-ghost use Rattle.neo_cli.specs.Answer.{answer};
+ghost use Rattle.neo_cli.specs.Answer.{answer, usage_text};
+ghost use Rattle.neo_cli.specs.Outcome.{Tells};
 ghost use Rattle.neo_cli.specs.Told.{IsStatus, Completes, IsAnswered, IsCutShort, IsWantOfMemory, IsRefused, IsRun};
 
 use crate::outcome::{decide, refuse_usage, tell};
@@ -53,7 +54,8 @@ pub fn bench<R: Threads + Sync, S: Shelf, O: Sink>(
     // each status has its cause
     ensures statuses { IsStatus result }
     ensures usage { result ≡ 2 → job_of (map string_bytes words.now.items) ≡ None }
-    ensures no_job { job_of (map string_bytes words.now.items) ≡ None → (result ≡ 2) ⊎ (result ≡ 9) }
+    ensures no_job { job_of (map string_bytes words.now.items) ≡ None → (S.read_faults shelf.new ≡ S.read_faults shelf.old)
+        × Tells (record { status = 2; text = usage_text }) (O.written out.old) (O.written out.new) (O.faults out.old) (O.faults out.new) result }
     ensures read { result ≡ 3 → Rose (S.read_faults shelf.old) (S.read_faults shelf.new)
         ⊎ (IsTrue (S.told shelf.old) × ((answer (job_of (map string_bytes words.now.items)) (S.file shelf.old)).status ≡ 3)) }
     ensures write { result ≡ 7 → Rose (O.faults out.old) (O.faults out.new) }

@@ -5,27 +5,37 @@ mod bank;
 mod bench;
 mod outcome;
 mod report;
+#[cfg(test)]
+mod tests;
 mod words;
 
 use bench_shelf::{FileShelf, OutSink};
-use std::env;
+use std::io::ErrorKind;
 use std::process::ExitCode;
+use std::{env, io};
 
-/// The words after the program's name. None where a word isn't UTF-8 or memory was wanted.
-fn arguments(rt: &HostRuntime) -> Option<Vec<String>> {
+/// The words after the program's name.
+fn arguments(rt: &HostRuntime) -> io::Result<Vec<String>> {
     let mut words: Vec<String> = Vec::new(rt.alloc());
-    for word in env::args(rt).ok()?.skip(1) {
-        words.push(word).ok()?;
+    for word in env::args(rt)?.skip(1) {
+        words.push(word)?;
     }
-    Some(words)
+    Ok(words)
 }
 
 fn main(rt: HostRuntime) -> ExitCode {
-    let Some(words) = arguments(&rt) else {
-        return ExitCode::from(2);
+    let words = match arguments(&rt) {
+        Ok(words) => words,
+        Err(error) => {
+            if error.kind() == ErrorKind::OutOfMemory {
+                return ExitCode::from(9);
+            }
+            // words that aren't UTF-8 give no job, like no words
+            Vec::new(rt.alloc())
+        }
     };
     let mut shelf = FileShelf::new(&rt);
-    let mut out = OutSink::new(std::io::writer(&rt));
+    let mut out = OutSink::new(io::writer(&rt));
     let status = bench::bench(&rt, rt.alloc(), &words, &mut shelf, &mut out);
     ExitCode::from(status)
 }

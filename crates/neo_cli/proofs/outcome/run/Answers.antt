@@ -1,5 +1,4 @@
 use Rattle.std.proofs.Common.{ap, sym, ◌∙◌}
-use Rattle.chip_hub.specs.State.{Step}
 use Rattle.chip_hub.specs.Cycle.{start, hub_cycle, none_arrive}
 use Rattle.chip_hub.proofs.After.{after-zero, after-more}
 use Rattle.neo_cli.proofs.outcome.run.Goals as goal
