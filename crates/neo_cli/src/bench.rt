@@ -15,7 +15,7 @@ use std::thread::Threads;
 /// Does what the words after the program's name ask for, and gives the status.
 ///
 /// The words `run IMAGE CYCLES --boot raw` run the file IMAGE on core 0 from power-on for CYCLES cycles (0 to 4,294,967,295)
-/// and write a report to the sink. The status is
+/// and write a report to the sink. No thread is started. The status is
 /// - 0 where the whole report was written,
 /// - 2 where the words give no job, after the line `error usage`,
 /// - 3 where the file isn't there or reading it failed, after `error read IMAGE`, or where it has more than 2,097,152 bytes,
