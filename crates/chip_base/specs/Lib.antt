@@ -1,3 +1,6 @@
+pub mod Groups
+pub mod Messages
+pub mod Prescalers
 pub mod Ranges
 pub mod Settings
 pub mod Steps

@@ -1,5 +1,7 @@
 //! Harts as a report shows them.
 
+use crate::cycle::Cycle;
+
 /// What a hart is doing.
 #[derive(Clone, Copy, Debug, PartialEq, Eq)]
 pub enum PhaseWord {
@@ -24,4 +26,14 @@ pub struct HartView {
     pub pc: u32,
     pub retired: u64,
     pub regs: [u32; 32],
+}
+
+/// An issued instruction: its cycle, the number of its hart, its address and its word. A compressed instruction's word is its
+/// parcel with zeros above.
+#[derive(Clone, Copy, Debug, PartialEq, Eq)]
+pub struct IssueRecord {
+    pub cycle: Cycle,
+    pub hart: u8,
+    pub pc: u32,
+    pub word: u32,
 }

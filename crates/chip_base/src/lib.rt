@@ -16,8 +16,11 @@ pub use boot::{Boot, BootView};
 pub use cycle::{Cycle, NoMemory};
 pub use event::{Event, EventKind, UnitOut};
 pub use groups::Groups;
-pub use hart::{HartView, PhaseWord};
+pub use hart::{HartView, IssueRecord, PhaseWord};
 pub use message::{Down, Up};
 pub use names::Name;
 pub use script::{Bytes, PinStep, Pins, Script, Steps0, UartStep};
 pub use setup::Setup;
+
+#[cfg(test)]
+mod tests;
