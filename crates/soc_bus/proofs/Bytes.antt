@@ -67,6 +67,11 @@ zero_bytes_of (suc n) =
     let e : 4 * suc n ≡ suc (suc (suc (suc (4 * n)))) = omega arith in
     rw e (ap (λ r. 0 ∷ 0 ∷ 0 ∷ 0 ∷ r) (zero_bytes_of n))
 
+pub length_zeros : (n : ℕ) → length (zeros n) ≡ n
+unfolding zeros
+length_zeros zero = refl
+length_zeros (suc n) = ap suc (length_zeros n)
+
 pub length_low_bytes : (width : Width) (word : ℕ) → length (low_bytes width word) ≡ width_bytes width
 length_low_bytes Byte word = refl
 length_low_bytes Half word = refl

@@ -1,9 +1,10 @@
--- Which bytes a write changes.
-use Rattle.std.proofs.Common.{◌≡◌, ℕ, zero, suc, ◌+◌, ◌-◌, ◌<◌, ◌≤◌, ◌⊎◌, inl, inr, List, [], ◌∷◌, ◌++◌, length, take, drop, Some, refl, arith, ◌∙◌}
-use Rattle.std.specs.List.{slice_get}
+-- Which bytes a store changes and a load reads.
+use Rattle.std.proofs.Common.{◌≡◌, ℕ, zero, suc, ◌+◌, ◌-◌, ◌<◌, ◌≤◌, ◌⊎◌, inl, inr, List, [], ◌∷◌, ◌++◌, length, take, drop, refl, sym, arith, ◌^◌, ◌%◌}
+use Rattle.std.specs.List.{slice_get, slice_range}
 use Rattle.soc_bus.proofs.Bytes.{length_low_bytes}
 use Rattle.soc_bus.specs.Access.{width_bytes}
 use Rattle.soc_bus.specs.declared.access.Width.{Width}
+use Rattle.soc_bus.specs.declared.access.Width.TheVariants.{Byte, Half, Word}
 use Rattle.soc_bus.specs.Memory.{with_bytes, low_bytes}
 
 get_before : (bytes new : List ℕ) (at i : ℕ) → at + length new ≤ length bytes → i < at
@@ -67,3 +68,33 @@ pub get_written : (bytes : List ℕ) (at value i : ℕ) (width : Width) → at +
 get_written bytes at value i width room from to =
     let n = length_low_bytes width value in
     get_new bytes (low_bytes width value) at i (omega arith) from (omega arith)
+
+get_take : (xs : List ℕ) (n i : ℕ) → i < n → slice_get (take n xs) i ≡ slice_get xs i
+get_take xs zero i h = absurd (omega arith)
+get_take [] (suc n) i h = refl
+get_take (x ∷ xs) (suc n) zero h = refl
+get_take (x ∷ xs) (suc n) (suc i) h = get_take xs n i (omega arith)
+
+get_drop : (xs : List ℕ) (at i : ℕ) → slice_get (drop at xs) i ≡ slice_get xs (at + i)
+get_drop xs zero i =
+    let e : 0 + i ≡ i = omega arith in
+    rw e refl
+get_drop [] (suc at) i = refl
+get_drop (x ∷ xs) (suc at) i =
+    let e : suc at + i ≡ suc (at + i) = omega arith in
+    rw e (get_drop xs at i)
+
+-- a byte of a part is the byte at its place
+pub get_read : (xs bytes : List ℕ) (at n i : ℕ) → bytes ≡ slice_range xs at (at + n) → i < n
+    → slice_get xs (at + i) ≡ slice_get bytes i
+get_read xs bytes at n i part h =
+    let count : at + n - at ≡ n = omega arith in
+    let whole : bytes ≡ take n (drop at xs) = rw count at part in
+    rw (whole, get_take (drop at xs) n i h) (sym (get_drop xs at i))
+
+-- an aligned access below DMEM ends below it
+pub ends_below : (width : Width) (address : ℕ) → address % width_bytes width ≡ 0 → address < 2 ^ 31
+    → address + width_bytes width ≤ 2 ^ 31
+ends_below Byte address aligned below = omega arith
+ends_below Half address aligned below = omega arith
+ends_below Word address aligned below = omega arith

@@ -63,17 +63,6 @@ low_bytes width word = take (width_bytes width) (to_le_bytes w32 word)
 abbrev pub with_bytes : List ℕ → ℕ → List ℕ → List ℕ
 with_bytes bytes at new = take at bytes ++ new ++ drop (at + length new) bytes
 
--- what a load gives from a place of a memory on, where the memory is long enough
-abbrev pub part_of : List ℕ → ℕ → Width → Result ℕ BusFault
-part_of bytes at width =
-    if nat_le (at + width_bytes width) (length bytes) then Ok (value_in width (slice_range bytes at (at + width_bytes width)))
-    else Err Unmapped
-
--- a memory after a store from a place on, where it is long enough
-abbrev pub stored_part : List ℕ → ℕ → Width → ℕ → Result (List ℕ) BusFault
-stored_part bytes at width value =
-    if nat_le (at + width_bytes width) (length bytes) then Ok (with_bytes bytes at (low_bytes width value)) else Err Unmapped
-
 -- what a load finds at a place
 abbrev pub loaded_at : Memories → Width → Option (Region × ℕ) → Result ℕ BusFault
 loaded_at m width None = Err Unmapped

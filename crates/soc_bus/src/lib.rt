@@ -2,8 +2,14 @@
 #![tactic(auto)]
 
 pub mod access;
+pub mod arbiter;
+pub mod map;
 pub mod memory;
+#[cfg(test)]
+mod tests;
 mod word_parts;
 
 pub use access::{BusFault, Region, Request, Width};
+pub use arbiter::{Arbiter, Master};
+pub use map::admit;
 pub use memory::Memory;

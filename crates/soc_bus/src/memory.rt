@@ -1,8 +1,9 @@
 //! The two memories.
-ghost use Rattle.std.specs.Prelude.{◌≡◌, ℕ, ◌+◌, ◌-◌, ◌*◌, ◌%◌, ◌^◌, ◌<◌, ◌≤◌, length, drop, ◌++◌, slice_range, IfOk, IfErr, OnOk, OnErr, IfSome, ◌⊎◌};
+ghost use Rattle.std.specs.Prelude.{◌≡◌, ℕ, ◌+◌, ◌-◌, ◌*◌, ◌%◌, ◌^◌, ◌<◌, ◌≤◌, length, drop, ◌++◌, slice_range, IfOk, IfErr, IsErr, OnOk, OnErr, IfSome, ◌⊎◌};
 ghost use Rattle.std.specs.List.{slice_get};
 ghost use Rattle.soc_bus.specs.Access.{width_bytes};
-ghost use Rattle.soc_bus.specs.Memory.{Memories, IsSize, byte_at, held_by, load_of, low_bytes, part_of, place_of, store_of, stored_part, zeros};
+ghost use Rattle.soc_bus.specs.Memory.{Memories, IsSize, byte_at, held_by, load_of, low_bytes, place_of, store_of, zeros};
+ghost use Rattle.soc_bus.specs.Parts.{part_of, stored_part};
 ghost use Rattle.soc_bus.specs.Words.{bytes_of};
 ghost use Rattle.std.specs.Vec.{vec_len};
 
@@ -13,7 +14,7 @@ use std::alloc::Global;
 use std::marker::Model;
 
 /// Where the data memory begins.
-const DMEM: u32 = 0x8000_0000;
+pub(crate) const DMEM: u32 = 0x8000_0000;
 
 /// The instruction memory from address 0 on and the data memory from address 80000000 (hexadecimal) on, seen as their bytes.
 /// Words stand with their low byte first.
@@ -38,7 +39,7 @@ impl Model for Memory {
 
 impl Memory {
     /// Memories of these sizes in bytes, all zero. The sizes are multiples of 4,096 from 4,096 to 1,048,576.
-    #[tactic(auto, using(crate::proofs::Bytes::length_bytes_of))]
+    #[tactic(auto, using(crate::proofs::Bytes::length_zeros))]
     pub fn new(alloc: Global, imem: u32, dmem: u32) -> Result<Memory, NoMemory>
         requires imem { IsSize imem }
         requires dmem { IsSize dmem }
@@ -53,11 +54,15 @@ impl Memory {
 
     /// The value of the bytes from an address on, with zeros above. Misaligned exactly where the address isn't a multiple of
     /// the width, otherwise Unmapped exactly where not all bytes lie in one of the memories.
+    #[tactic(auto, using(crate::proofs::Places::ends_below))]
     pub fn load(&self, addr: u32, width: Width) -> Result<u32, BusFault>
         ensures value { result ≡ load_of self.now addr width }
-        ensures below { IfOk result (λ v. v < 2 ^ (8 * width_bytes width)) }
+        ensures below { IfOk result (λ w. w < 2 ^ (8 * width_bytes width)) }
         ensures bytes { IfOk result (λ w. IfSome (place_of self.now addr (width_bytes width))
             (λ p. low_bytes width w ≡ slice_range (held_by self.now p.0) p.1 (p.1 + width_bytes width))) }
+        ensures read { IfOk result (λ w. (i : ℕ) → i < width_bytes width
+            → byte_at self.now (addr + i) ≡ slice_get (low_bytes width w) i) }
+        ensures absent { result ≡ Err BusFault.Unmapped → byte_at self.now (addr + width_bytes width - 1) ≡ None }
     {
         if addr % width.bytes() != 0 {
             return Err(BusFault::Misaligned);
@@ -97,6 +102,7 @@ impl Memory {
         requires { length bytes.now ≤ length self.old.imem }
         ensures imem { self.new.imem ≡ bytes.now ++ drop (length bytes.now) self.old.imem }
         ensures dmem { self.new.dmem ≡ self.old.dmem }
+        ensures size { length self.new.imem ≡ length self.old.imem }
     {
         overwrite(&mut self.imem, bytes);
     }
@@ -121,13 +127,16 @@ impl Memory {
 }
 
 /// The value of the bytes from a place of a memory on.
-#[tactic(auto, using(crate::proofs::Bytes::length_bytes_of))]
+#[tactic(auto, using(crate::proofs::Bytes::has_bytes, crate::proofs::Bytes::length_bytes_of, crate::proofs::Places::get_read, std::proofs::lemmas::Option::slice_get_past))]
 fn loaded(words: &[u32], at: u32, width: Width) -> Result<u32, BusFault>
     requires aligned { at % width_bytes width ≡ 0 }
     requires size { length words.now ≤ 262144 }
     ensures value { result ≡ part_of (bytes_of words.now) at width }
-    ensures below { IfOk result (λ v. v < 2 ^ (8 * width_bytes width)) }
+    ensures below { IfOk result (λ w. w < 2 ^ (8 * width_bytes width)) }
     ensures bytes { IfOk result (λ w. low_bytes width w ≡ slice_range (bytes_of words.now) at (at + width_bytes width)) }
+    ensures read { IfOk result (λ w. (i : ℕ) → i < width_bytes width
+        → slice_get (bytes_of words.now) (at + i) ≡ slice_get (low_bytes width w) i) }
+    ensures absent { IsErr result → slice_get (bytes_of words.now) (at + width_bytes width - 1) ≡ None }
 {
     if at as usize + width.bytes() as usize <= 4 * words.len() {
         Ok(read(words, at, width))

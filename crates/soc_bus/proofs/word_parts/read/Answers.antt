@@ -11,7 +11,7 @@ returns c =
     let within : at / 4 < length c.args.words.now = omega (arith, has_bytes c.args.width) in
     let same = slice_bytes_of c.args.words.now (at / 4) (at % 4) at (width_bytes c.args.width) (omega arith) within room in
     record {
-        value = c.part.ensures.value ∙ sym (ap (value_in c.args.width) same);
-        below = c.part.ensures.below;
-        bytes = c.part.ensures.bytes ∙ sym same;
+      below = c.part.ensures.below;
+      value = c.part.ensures.value ∙ sym (ap (value_in c.args.width) same);
+      bytes = c.part.ensures.bytes ∙ sym same;
     }
