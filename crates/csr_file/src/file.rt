@@ -1,0 +1,256 @@
+//! The CSRs of one hart.
+ghost use Rattle.std.specs.Prelude.{◌≡◌, ◌==◌, ℕ, ◌+◌, ◌*◌, ◌/◌, ◌%◌, ◌^◌, ◌<◌, ◌≤◌, IsTrue, if◌then◌else◌, bit_and, nat_lt, None, ◌↔◌, ◌⊎◌, ◌≢◌, IsSome, false};
+ghost use Rattle.std.specs.Option.{option_map};
+ghost use mathlib.Core.Bool.{not};
+ghost use Rattle.std.specs.List.{find, list_all};
+ghost use Rattle.std.specs.Int.{bit_at};
+ghost use Rattle.csr_file.specs.Table.{fresh, read_at, written, writable, word_of, with_word, row_of, kept, takes, csr_at, reset_word};
+ghost use Rattle.csr_file.specs.Traps.{enabled, status, first_cause, trapped, target, returned, pending_in, wakes_in, after_tick, after_retire};
+
+use crate::counter::{high_word, low_word, with_high, with_low};
+use crate::names::Csr;
+use std::marker::Model;
+
+/// The numbers of the interrupts, the first taken first.
+const ORDER: [u32; 19] = [
+    11, 3, 7, 16, 17, 18, 19, 20, 21, 22, 23, 24, 25, 26, 27, 28, 29, 30, 31,
+];
+
+/// The control and status registers of one hart.
+#[derive(Drop)]
+pub struct Csrs {
+    hart: u32,
+    mstatus: u32,
+    mie: u32,
+    mtvec: u32,
+    mscratch: u32,
+    mepc: u32,
+    mcause: u32,
+    mtval: u32,
+    mcycle: u64,
+    minstret: u64,
+}
+
+impl Model for Csrs {
+    ghost use Rattle.std.specs.Prelude.{◌≡◌, ◌%◌, bit_and};
+    ghost use Rattle.csr_file.specs.State.{State};
+
+    ghost Value = { State };
+
+    ghost view = { λ s. record { hart = s.hart; mstatus = s.mstatus; mie = s.mie; mtvec = s.mtvec; mscratch = s.mscratch; mepc = s.mepc; mcause = s.mcause; mtval = s.mtval; mcycle = s.mcycle; minstret = s.minstret } };
+
+    ghost invariant = { λ s. (s.mepc % 2 ≡ 0) × (bit_and s.mie 0xffff0888 ≡ s.mie) };
+}
+
+/// The status word with MIE and MPIE.
+fn status_word(mie: bool, mpie: bool) -> u32
+    ensures { result ≡ status (if mie then 1 else 0) (if mpie then 1 else 0) }
+{
+    0x1800 + u32::from(mie) * 8 + u32::from(mpie) * 128
+}
+
+/// Whether a bit of a word is 1.
+fn has_bit(word: u32, number: u32) -> bool
+    requires { number < 32 }
+    ensures { result ≡ (bit_at word number == 1) }
+{
+    (word >> number) & 1 == 1
+}
+
+/// The first of the numbers whose bit is 1.
+fn first_set(ready: u32, numbers: &[u32]) -> Option<u32>
+    requires { IsTrue (list_all (λ n. nat_lt n 32) numbers.now) }
+    ensures { result ≡ find (λ n. bit_at ready n == 1) numbers.now }
+{
+    for number in numbers {
+        if has_bit(ready, *number) {
+            return Some(*number);
+        }
+    }
+    None
+}
+
+/// The cause of the interrupt that is taken, where these interrupts are ready.
+fn taken(enabled: bool, ready: u32) -> Option<u32>
+    ensures { result ≡ (if enabled then first_cause ready else None) }
+{
+    if !enabled {
+        return None;
+    }
+    let number = first_set(ready, &ORDER)?;
+    Some(0x8000_0000 + number)
+}
+
+impl Csrs {
+    /// The CSRs of a hart at reset.
+    pub fn new(hart: u32) -> Csrs
+        requires { hart < 2 }
+        ensures state { result ≡ fresh hart }
+        ensures table { (n mip : ℕ) → read_at result n mip ≡ option_map (λ c. reset_word hart mip (row_of c).reset) (csr_at n) }
+    {
+        Csrs {
+            hart,
+            mstatus: 0x1800,
+            mie: 0,
+            mtvec: 0,
+            mscratch: 0,
+            mepc: 0,
+            mcause: 0,
+            mtval: 0,
+            mcycle: 0,
+            minstret: 0,
+        }
+    }
+
+    fn word(&self, csr: Csr, mip: u32) -> u32
+        ensures { result ≡ word_of self.now mip csr }
+    {
+        match csr {
+            Csr::Mstatus => self.mstatus,
+            Csr::Misa => 0x4000_1104,
+            Csr::Mie => self.mie,
+            Csr::Mtvec => self.mtvec,
+            Csr::Mscratch => self.mscratch,
+            Csr::Mepc => self.mepc,
+            Csr::Mcause => self.mcause,
+            Csr::Mtval => self.mtval,
+            Csr::Mip => mip,
+            Csr::Mcycle => low_word(self.mcycle),
+            Csr::Mcycleh => high_word(self.mcycle),
+            Csr::Minstret => low_word(self.minstret),
+            Csr::Minstreth => high_word(self.minstret),
+            Csr::Marchid => 0x13,
+            Csr::Mimpid => 0x1_0000,
+            Csr::Mhartid => self.hart,
+            Csr::Mstatush | Csr::Mvendorid | Csr::Mconfigptr => 0,
+        }
+    }
+
+    /// The word of a CSR, where `mip` is what the interrupt lines give. None exactly where the table has no such CSR.
+    #[tactic(auto, unfolding(crate::specs::Table::read_at))]
+    pub fn read(&self, addr: u16, mip: u32) -> Option<u32>
+        ensures word { result ≡ read_at self.now addr mip }
+        ensures none { (result ≡ None) ↔ (csr_at addr ≡ None) }
+    {
+        let csr = Csr::at(addr)?;
+        Some(self.word(csr, mip))
+    }
+
+    fn put(&mut self, csr: Csr, value: u32) -> bool
+        ensures state { self.new ≡ with_word self.old csr (kept (row_of csr).rule (word_of self.old 0 csr) value) }
+        ensures done { result ≡ takes (row_of csr).rule }
+    {
+        match csr {
+            Csr::Mstatus => self.mstatus = (value & 0x88) + 0x1800,
+            Csr::Mie => self.mie = value & 0xffff_0888,
+            Csr::Mtvec => self.mtvec = value & 0xffff_fffd,
+            Csr::Mscratch => self.mscratch = value,
+            Csr::Mepc => self.mepc = value & 0xffff_fffe,
+            Csr::Mcause => self.mcause = value,
+            Csr::Mtval => self.mtval = value,
+            Csr::Mcycle => self.mcycle = with_low(self.mcycle, value),
+            Csr::Mcycleh => self.mcycle = with_high(self.mcycle, value),
+            Csr::Minstret => self.minstret = with_low(self.minstret, value),
+            Csr::Minstreth => self.minstret = with_high(self.minstret, value),
+            Csr::Misa | Csr::Mstatush | Csr::Mip => {}
+            Csr::Mvendorid | Csr::Marchid | Csr::Mimpid | Csr::Mhartid | Csr::Mconfigptr => {
+                return false;
+            }
+        }
+        true
+    }
+
+    #[tactic(auto, unfolding(crate::specs::Table::written, crate::specs::Table::writable))]
+    fn put_at(&mut self, addr: u16, value: u32) -> bool
+        ensures state { self.new ≡ written self.old addr value }
+        ensures done { result ≡ writable addr }
+    {
+        match Csr::at(addr) {
+            Some(csr) => self.put(csr, value),
+            None => false,
+        }
+    }
+
+    /// Writes a CSR. False exactly where the CSR is unknown or read-only; nothing changes then.
+    #[tactic(auto, using(crate::proofs::Laws::write_refused, crate::proofs::Laws::writable_by_bits))]
+    pub fn write(&mut self, addr: u16, value: u32) -> bool
+        ensures state { self.new ≡ written self.old addr value }
+        ensures done { result ≡ writable addr }
+        ensures kept { (mip : ℕ) → read_at self.new addr mip ≡ option_map (λ c. kept (row_of c).rule (word_of self.old mip c) value) (csr_at addr) }
+        ensures others { (other mip : ℕ) → addr ≢ other → read_at self.new other mip ≡ read_at self.old other mip }
+        ensures refused { result ≡ false → self.new ≡ self.old }
+        ensures read_only { IsSome (csr_at addr) → result ≡ not (addr / 2 ^ 10 % 4 == 3) }
+    {
+        self.put_at(addr, value)
+    }
+
+    /// Sets the CSRs of a trap and gives its target.
+    #[tactic(auto, unfolding(crate::specs::Traps::trapped, crate::specs::Traps::target))]
+    pub fn trap(&mut self, pc: u32, cause: u32, value: u32) -> u32
+        requires { pc % 2 ≡ 0 }
+        ensures state { self.new ≡ trapped self.old pc cause value }
+        ensures goes { result ≡ target self.old.mtvec cause }
+        ensures even { result % 2 ≡ 0 }
+    {
+        self.mepc = pc;
+        self.mcause = cause;
+        self.mtval = value;
+        self.mstatus = status_word(false, has_bit(self.mstatus, 3));
+        let base = self.mtvec / 4 * 4;
+        if cause >= 0x8000_0000 && self.mtvec % 2 == 1 {
+            base.wrapping_add(cause.wrapping_mul(4))
+        } else {
+            base
+        }
+    }
+
+    /// Returns from a trap: gives mepc.
+    #[tactic(auto, unfolding(crate::specs::Traps::returned))]
+    pub fn mret(&mut self) -> u32
+        ensures state { self.new ≡ returned self.old }
+        ensures goes { result ≡ self.old.mepc }
+        ensures even { result % 2 ≡ 0 }
+    {
+        self.mstatus = status_word(has_bit(self.mstatus, 7), true);
+        self.mepc
+    }
+
+    /// The cause of the interrupt that is taken. None exactly where MIE is 0 or no bit is set in both `mip` and mie.
+    #[tactic(auto, using(crate::proofs::Interrupts::pending_none), unfolding(crate::specs::Traps::pending_in))]
+    pub fn pending(&self, mip: u32) -> Option<u32>
+        ensures cause { result ≡ pending_in self.now mip }
+        ensures none { (result ≡ None) ↔ ((enabled self.now ≡ false) ⊎ (bit_and mip self.now.mie ≡ 0)) }
+    {
+        let ready = mip & self.mie;
+        taken(has_bit(self.mstatus, 3), ready)
+    }
+
+    /// Whether a bit is set in both `mip` and mie.
+    #[tactic(auto, unfolding(crate::specs::Traps::wakes_in))]
+    pub fn wakes(&self, mip: u32) -> bool
+        ensures { result ≡ wakes_in self.now mip }
+    {
+        mip & self.mie != 0
+    }
+
+    /// Adds one to mcycle, modulo 2^64.
+    pub fn tick(&mut self)
+        ensures { self.new ≡ after_tick self.old }
+    {
+        self.mcycle = self.mcycle.wrapping_add(1);
+    }
+
+    /// Adds one to minstret, modulo 2^64.
+    pub fn retire(&mut self)
+        ensures { self.new ≡ after_retire self.old }
+    {
+        self.minstret = self.minstret.wrapping_add(1);
+    }
+
+    /// The number of retired instructions, modulo 2^64.
+    pub fn retired(&self) -> u64
+        ensures { result ≡ self.now.minstret }
+    {
+        self.minstret
+    }
+}
