@@ -1,0 +1,89 @@
+-- What a cycle does to the number of bytes in the unit.
+use Rattle.std.proofs.Common.{◌≡◌, ◌≤◌, ◌<◌, ℕ, ◌+◌, ◌%◌, Bool, true, false, eqb, ltb, List, [], ◌∷◌, length, Option, None, Some, refl, sym, ap, subst, cond, ◌∙◌, arith, length-append}
+use Rattle.std.proofs.lemmas.Bool.Decides.{nat_tests}
+use Rattle.chip_base.specs.declared.message.Down.{Down}
+use Rattle.chip_base.specs.declared.message.Down.TheVariants.{Reset, Set}
+use Rattle.chip_base.specs.declared.message.Up.{Up}
+use Rattle.chip_base.specs.Messages.{data_in, credit_in, done_in}
+use Rattle.uart_lane.specs.State.{State}
+use Rattle.uart_lane.specs.Cycle.{Given, appended, set_in, may_begin, begun, ended, sent, unit_cycle}
+use Rattle.uart_lane.specs.Counts.{KeepsCount}
+
+-- the bytes in the unit and the credit that goes up
+abbrev pub counted : Given → ℕ
+counted g = length g.unit.fifo + credit_in g.up
+
+ended-count : (s : State) (now : ℕ) (fifo : List ℕ) → fifo ≡ s.fifo → counted (ended s now fifo) ≡ length fifo
+ended-count s now [] e = let l : length s.fifo ≡ 0 = ap length (sym e) in omega arith
+ended-count s now (b ∷ rest) e = omega arith
+
+sent-count_by : (s : State) (now : ℕ) (a b : Bool) → eqb s.left 0 ≡ a → eqb s.left 1 ≡ b → counted (sent s now) ≡ length s.fifo
+sent-count_by s now true b p q = rw p (omega arith)
+sent-count_by s now false true p q = rw (p, q) (ended-count s now s.fifo refl)
+sent-count_by s now false false p q = rw (p, q) (omega arith)
+
+pub sent-count : (s : State) (now : ℕ) → counted (sent s now) ≡ length s.fifo
+sent-count s now = sent-count_by s now _ _ refl refl
+
+begun-fifo_by : (s : State) (b : Bool) → may_begin s ≡ b → (begun s).fifo ≡ s.fifo
+begun-fifo_by s true h = rw h refl
+begun-fifo_by s false h = rw h refl
+
+pub begun-fifo : (s : State) → (begun s).fifo ≡ s.fifo
+begun-fifo s = begun-fifo_by s _ refl
+
+pub is_less : (a b : ℕ) → a < b → ltb a b ≡ true
+is_less a b h = grind (arith, nat_tests)
+
+appended-count : (s : State) (byte : ℕ) → length s.fifo < 16 → length (appended s byte).fifo ≡ length s.fifo + 1
+appended-count s byte h = rw (is_less (length s.fifo) 16 h) (length-append s.fifo (byte ∷ []))
+
+pub not_four : (reg : ℕ) → eqb reg 0 ≡ true → eqb reg 4 ≡ false
+not_four reg h = grind (arith, nat_tests)
+
+set-count_by : (s : State) (reg word : ℕ) (a b : Bool) → eqb reg 0 ≡ a → eqb reg 4 ≡ b → length s.fifo + data_in (Some (Set reg word)) ≤ 16
+    → length (set_in s reg word).fifo ≡ length s.fifo + data_in (Some (Set reg word))
+set-count_by s reg word true b p q h = rw (p, not_four reg p) (omega arith)
+set-count_by s reg word false true p q h =
+    let room : length s.fifo + 1 ≤ 16 = subst (λ b. length s.fifo + cond b 1 0 ≤ 16) q h in
+    rw (p, q) (appended-count s (word % 256) (omega arith))
+set-count_by s reg word false false p q h = rw (p, q) (omega arith)
+
+pub set-count : (s : State) (reg word : ℕ) → length s.fifo + data_in (Some (Set reg word)) ≤ 16
+    → length (set_in s reg word).fifo ≡ length s.fifo + data_in (Some (Set reg word))
+set-count s reg word h = set-count_by s reg word _ _ refl refl h
+
+sent-done_in : (s : State) (now : ℕ) (fifo : List ℕ) → done_in (ended s now fifo).up ≡ 0
+sent-done_in s now [] = refl
+sent-done_in s now (b ∷ rest) = refl
+
+sent-done_by : (s : State) (now : ℕ) (a b : Bool) → eqb s.left 0 ≡ a → eqb s.left 1 ≡ b → done_in (sent s now).up ≡ 0
+sent-done_by s now true b p q = rw p refl
+sent-done_by s now false true p q = rw (p, q) (sent-done_in s now s.fifo)
+sent-done_by s now false false p q = rw (p, q) refl
+
+pub sent-done : (s : State) (now : ℕ) → done_in (sent s now).up ≡ 0
+sent-done s now = sent-done_by s now _ _ refl refl
+
+pub keeps_count : (s : State) (now : ℕ) (down : Option Down) → KeepsCount s down (unit_cycle s now down).unit (unit_cycle s now down).up
+unfolding unit_cycle
+keeps_count s now None = record {
+  bytes = λ r h. sent-count (begun s) now ∙ ap length (begun-fifo s) ∙ omega arith;
+  after_reset = λ r. absurd (omega arith);
+  answers = sent-done (begun s) now;
+}
+keeps_count s now (Some Reset) = record {
+  bytes = λ r h. absurd (omega arith);
+  after_reset = λ r. refl;
+  answers = refl;
+}
+keeps_count s now (Some (Set reg word)) = record {
+  bytes = λ r h. sent-count (begun (set_in s reg word)) now ∙ ap length (begun-fifo (set_in s reg word)) ∙ set-count s reg word h;
+  after_reset = λ r. absurd (omega arith);
+  answers = sent-done (begun (set_in s reg word)) now;
+}
+
+-- what a cycle does, where the unit after it and its message are known by equations
+pub counts_kept : (s : State) (now : ℕ) (down : Option Down) (new : State) (up : Option Up)
+    → new ≡ (unit_cycle s now down).unit → up ≡ (unit_cycle s now down).up → KeepsCount s down new up
+counts_kept s now down new up e u = rw (e, u) (keeps_count s now down)

@@ -1,0 +1,77 @@
+-- One cycle of a UART unit.
+use Rattle.std.specs.Prelude.{◌==◌, ℕ, ◌+◌, ◌-◌, ◌*◌, ◌/◌, ◌%◌, Bool, true, false, ◌&&◌, nat_lt, List, [], ◌∷◌, ◌++◌, length, Option, None, Some, if◌then◌else◌}
+use Rattle.chip_base.specs.declared.event.Event.{Event}
+use Rattle.chip_base.specs.declared.event.EventKind.TheVariants.{Tx}
+use Rattle.chip_base.specs.declared.message.Down.{Down}
+use Rattle.chip_base.specs.declared.message.Down.TheVariants.{Reset, Set}
+use Rattle.chip_base.specs.declared.message.Up.{Up}
+use Rattle.chip_base.specs.Prescalers.{prescaler_of}
+use Rattle.uart_lane.specs.State.{State, reset_state}
+
+-- what a cycle gives: the unit after it, a message to the front, and an event
+pub record Given : Type 0 where
+  pub unit : State
+  pub up : Option Up
+  pub event : Option Event
+
+-- the cycles of a bit by a control word: prescaler times baud + 1
+abbrev pub bit_of : ℕ → ℕ
+bit_of control = prescaler_of control * (control / 64 % 1024 + 1)
+
+-- a new control word; a frame that runs keeps its length
+abbrev pub configured : State → ℕ → State
+configured s control = record s { enabled = control % 2 == 1; bit = bit_of control }
+
+-- one byte more; where sixteen wait it is lost
+abbrev pub appended : State → ℕ → State
+appended s byte = if nat_lt (length s.fifo) 16 then record s { fifo = s.fifo ++ byte ∷ [] } else s
+
+-- after a register was set: the control word at 0, a byte at 4
+abbrev pub set_in : State → ℕ → ℕ → State
+set_in s reg word = if reg == 0 then configured s word else if reg == 4 then appended s (word % 256) else s
+
+-- a frame is ten bits long: the start bit, eight bits of the byte, and the stop bit
+abbrev pub frame_of : State → ℕ
+frame_of s = 10 * s.bit
+
+abbrev pub may_begin : State → Bool
+may_begin s = s.left == 0 && s.enabled && nat_lt 0 (length s.fifo)
+
+-- a frame begins where none runs, the unit is enabled and a byte waits
+abbrev pub begun : State → State
+begun s = if may_begin s then record s { left = frame_of s } else s
+
+-- a cycle in which nothing leaves the unit
+abbrev pub quiet : State → Given
+quiet s = record { unit = s; up = None; event = None }
+
+-- says that a byte left, so that one more may come
+abbrev pub credit_up : Up
+credit_up = record { done = false; fire = false; credit = true; has = false; word = 0 }
+
+-- says that a Reset was done
+abbrev pub done_up : Up
+done_up = record { done = true; fire = false; credit = false; has = false; word = 0 }
+
+-- the frame's last cycle: its byte leaves
+abbrev pub ended : State → ℕ → List ℕ → Given
+ended s now [] = quiet (record s { left = 0 })
+ended s now (byte ∷ rest) = record {
+  unit = record s { fifo = rest; left = 0 };
+  up = Some credit_up;
+  event = Some (record { cycle = now; unit = s.number; kind = Tx; value = byte });
+}
+
+-- a frame that runs loses one cycle
+abbrev pub sent : State → ℕ → Given
+sent s now = if s.left == 0 then quiet s else if s.left == 1 then ended s now s.fifo else quiet (record s { left = s.left - 1 })
+
+-- a Reset drops the frame and the bytes that wait
+abbrev pub reset : State → Given
+reset s = record { unit = reset_state s.number; up = Some done_up; event = None }
+
+-- one cycle: the message first, then the transmitter
+unfoldable pub unit_cycle : State → ℕ → Option Down → Given
+unit_cycle s now None = sent (begun s) now
+unit_cycle s now (Some Reset) = reset s
+unit_cycle s now (Some (Set reg word)) = sent (begun (set_in s reg word)) now

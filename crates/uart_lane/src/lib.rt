@@ -1,0 +1,8 @@
+//! The UART unit: a byte goes out bit by bit, at the pace that its control word sets.
+#![tactic(auto)]
+
+#[cfg(test)]
+mod tests;
+pub mod uart;
+
+pub use uart::Uart;

@@ -1,0 +1,213 @@
+//! The UART unit, one cycle at a time.
+ghost use Rattle.std.specs.Prelude.{◌≡◌, ◌<◌, ◌≤◌, []};
+ghost use Rattle.chip_base.specs.Prescalers.{prescaler_of};
+
+use arrayvec::ArrayVec;
+use chip_base::{Bytes, Cycle, Down, Event, EventKind, Steps0, UnitOut, Up};
+use std::marker::Model;
+
+/// Says that a byte left, so that one more may come.
+const CREDIT: Up = Up {
+    done: false,
+    fire: false,
+    credit: true,
+    has: false,
+    word: 0,
+};
+
+/// Says that a Reset was done.
+const DONE: Up = Up {
+    done: true,
+    fire: false,
+    credit: false,
+    has: false,
+    word: 0,
+};
+
+/// A cycle in which nothing leaves the unit.
+const QUIET: UnitOut = UnitOut {
+    up: None,
+    event: None,
+};
+
+/// A UART unit: it sends the bytes that it is given, one frame of ten bits after another.
+///
+/// At most sixteen bytes wait; one more is lost. No call takes memory.
+#[derive(Drop)]
+pub struct Uart {
+    number: u8,
+    enabled: bool,
+    bit: u32,
+    fifo: ArrayVec<u8, 16>,
+    left: u32,
+}
+
+impl Model for Uart {
+    ghost use Rattle.std.specs.Prelude.{◌≤◌, ◌<◌};
+    ghost use Rattle.arrayvec.specs.ArrayVec.{array_vec_len};
+    ghost use Rattle.uart_lane.specs.State.{State};
+
+    ghost Value = { State };
+
+    ghost view = { λ u. record { number = u.number; enabled = u.enabled; bit = u.bit; fifo = u.fifo.items; left = u.left } };
+
+    ghost invariant = { λ u. (0 < u.bit) × (u.bit ≤ 4194304) × (array_vec_len u.fifo ≤ 16) × (0 < u.left → 0 < array_vec_len u.fifo) };
+}
+
+/// The prescaler that bits 3 to 5 of a control word select.
+fn prescaler(control: u32) -> u32
+    ensures value { result ≡ prescaler_of control }
+    ensures from { 0 < result }
+    ensures to { result ≤ 4096 }
+{
+    match control / 8 % 8 {
+        0 => 2,
+        1 => 4,
+        2 => 8,
+        3 => 64,
+        4 => 128,
+        5 => 1024,
+        6 => 2048,
+        _ => 4096,
+    }
+}
+
+impl Uart {
+    ghost use Rattle.uart_lane.specs.State.{reset_state};
+    ghost use Rattle.uart_lane.specs.Cycle.{configured, appended, set_in, frame_of, begun, ended, sent, reset, unit_cycle};
+    ghost use Rattle.uart_lane.specs.Counts.{KeepsCount, KeepsOrder};
+    ghost use Rattle.uart_lane.specs.Frames.{SendsInTime};
+
+    /// The unit with this number (1 to 7, as in events) at power-on. It has no script, so its image isn't read.
+    pub fn new(unit: u8, steps: Steps0, _image: Bytes) -> Uart
+        requires no_script { steps ≡ [] }
+        ensures { result ≡ reset_state unit }
+    {
+        Uart {
+            number: unit,
+            enabled: false,
+            bit: 2,
+            fifo: ArrayVec::new(),
+            left: 0,
+        }
+    }
+
+    fn configure(&mut self, control: u32)
+        ensures { self.new ≡ configured self.old control }
+    {
+        self.enabled = control % 2 == 1;
+        self.bit = prescaler(control) * (control / 64 % 1024 + 1);
+    }
+
+    fn append(&mut self, byte: u8)
+        ensures { self.new ≡ appended self.old byte }
+    {
+        if !self.fifo.is_full() {
+            self.fifo.push(byte);
+        }
+    }
+
+    fn set(&mut self, reg: u8, word: u32)
+        ensures { self.new ≡ set_in self.old reg word }
+    {
+        match reg {
+            0 => self.configure(word),
+            4 => self.append((word % 256) as u8),
+            _ => {}
+        }
+    }
+
+    fn reset(&mut self)
+        ensures { self.new ≡ reset_state self.old.number }
+    {
+        self.enabled = false;
+        self.bit = 2;
+        self.fifo.clear();
+        self.left = 0;
+    }
+
+    /// How many cycles a frame takes by the present control word. A byte that an idle unit is given in the cycle `t` has its
+    /// event this many cycles later, less one.
+    pub fn frame(&self) -> u32
+        ensures length { result ≡ frame_of self.now }
+        ensures in_time { SendsInTime self.now result }
+    {
+        10 * self.bit
+    }
+
+    fn begin(&mut self)
+        ensures { self.new ≡ begun self.old }
+    {
+        if self.left == 0 && self.enabled && !self.fifo.is_empty() {
+            self.left = self.frame();
+        }
+    }
+
+    fn end(&mut self, now: Cycle) -> UnitOut
+        requires { 0 < self.old.left }
+        ensures unit { self.new ≡ (ended self.old now self.old.fifo).unit }
+        ensures up { result.up ≡ (ended self.old now self.old.fifo).up }
+        ensures event { result.event ≡ (ended self.old now self.old.fifo).event }
+    {
+        self.left = 0;
+        let byte = self.fifo.remove(0);
+        UnitOut {
+            up: Some(CREDIT),
+            event: Some(Event {
+                cycle: now,
+                unit: self.number,
+                kind: EventKind::Tx,
+                value: u32::from(byte),
+            }),
+        }
+    }
+
+    fn send(&mut self, now: Cycle) -> UnitOut
+        ensures unit { self.new ≡ (sent self.old now).unit }
+        ensures up { result.up ≡ (sent self.old now).up }
+        ensures event { result.event ≡ (sent self.old now).event }
+    {
+        match self.left {
+            0 => QUIET,
+            1 => self.end(now),
+            left => {
+                self.left = left - 1;
+                QUIET
+            }
+        }
+    }
+
+    fn transmit(&mut self, now: Cycle) -> UnitOut
+        ensures unit { self.new ≡ (sent (begun self.old) now).unit }
+        ensures up { result.up ≡ (sent (begun self.old) now).up }
+        ensures event { result.event ≡ (sent (begun self.old) now).event }
+    {
+        self.begin();
+        self.send(now)
+    }
+
+    /// One cycle: takes the message that arrives in it, if there is one, and gives what leaves the unit.
+    #[tactic(auto, unfolding(crate::specs::Cycle::unit_cycle))]
+    pub fn cycle(&mut self, now: Cycle, down: Option<Down>) -> UnitOut
+        ensures unit { self.new ≡ (unit_cycle self.old now down).unit }
+        ensures up { result.up ≡ (unit_cycle self.old now down).up }
+        ensures event { result.event ≡ (unit_cycle self.old now down).event }
+        ensures count { KeepsCount self.old down self.new result.up }
+        ensures order { KeepsOrder self.old down self.new result.event }
+    {
+        match down {
+            Some(Down::Reset) => {
+                self.reset();
+                UnitOut {
+                    up: Some(DONE),
+                    event: None,
+                }
+            }
+            Some(Down::Set { reg, word }) => {
+                self.set(reg, word);
+                self.transmit(now)
+            }
+            None => self.transmit(now),
+        }
+    }
+}

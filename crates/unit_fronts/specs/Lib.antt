@@ -1,0 +1,7 @@
+pub mod Counts
+pub mod GpioFront
+pub mod GpioRises
+pub mod Owed
+pub mod Port
+pub mod PwmFront
+pub mod UartFront

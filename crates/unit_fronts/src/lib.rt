@@ -1,0 +1,17 @@
+//! Fronts: the registers in the hub that stand for its units.
+//!
+//! A front keeps what a load needs, so that no load waits for the unit, and counts credits, so that it never sends an entry
+//! for which its unit has no room.
+#![tactic(auto)]
+
+pub mod gpio_front;
+mod owed;
+mod port;
+pub mod pwm_front;
+#[cfg(test)]
+mod tests;
+pub mod uart_front;
+
+pub use gpio_front::GpioFront;
+pub use pwm_front::PwmFront;
+pub use uart_front::UartFront;

@@ -1,0 +1,172 @@
+//! What the fronts of the serial units share.
+ghost use Rattle.std.specs.Prelude.{◌≡◌, ◌<◌, ◌^◌, nat_lt, not, if◌then◌else◌};
+
+use crate::owed::Owed;
+use arrayvec::ArrayVec;
+use chip_base::Up;
+use std::marker::Model;
+
+/// How many entries a unit, or a front, holds.
+const ROOM: usize = 16;
+
+/// Control bits, received entries, credits and owed answers of a front.
+#[derive(Drop)]
+pub struct Port {
+    kept: u32,
+    overrun: bool,
+    received: ArrayVec<u32, 16>,
+    credits: u8,
+    owed: Owed,
+}
+
+impl Model for Port {
+    ghost use Rattle.std.specs.Prelude.{◌<◌, ◌≤◌, ◌^◌};
+    ghost use Rattle.arrayvec.specs.ArrayVec.{array_vec_len};
+    ghost use Rattle.unit_fronts.specs.Port.{Port};
+
+    ghost Value = { Port };
+
+    ghost view = { λ p. record { kept = p.kept; overrun = p.overrun; received = p.received.items; credits = p.credits; owed = p.owed } };
+
+    ghost invariant = { λ p. (p.kept < 2 ^ 23) × (array_vec_len p.received ≤ 16) × (p.credits ≤ 16) };
+}
+
+/// This bit of a word, where it is set.
+fn bit_if(bit: u32, set: bool) -> u32
+    ensures { result ≡ (if set then bit else 0) }
+{
+    if set { bit } else { 0 }
+}
+
+impl Port {
+    ghost use Rattle.unit_fronts.specs.Port.{reset_owing, is_open_of, has_received, control_of, oldest, taken, with_control, spent, credited, received_by, arrived_open, arrived_closed, arrived, line_of, closed};
+
+    /// The state at power-on.
+    pub fn new() -> Port
+        ensures { result ≡ reset_owing 0 }
+    {
+        Port {
+            kept: 0,
+            overrun: false,
+            received: ArrayVec::new(),
+            credits: 16,
+            owed: Owed::none(),
+        }
+    }
+
+    /// Whether the front waits for no answer.
+    pub fn is_open(&self) -> bool
+        ensures { result ≡ is_open_of self.now }
+    {
+        self.owed.is_open()
+    }
+
+    fn has_received(&self) -> bool
+        ensures { result ≡ has_received self.now }
+    {
+        !self.received.is_empty()
+    }
+
+    /// CTRL as a load gives it.
+    pub fn control(&self) -> u32
+        ensures { result ≡ control_of self.now }
+    {
+        self.kept
+            + bit_if(1 << 16, self.has_received())
+            + bit_if(1 << 21, self.credits == 0)
+            + bit_if(1 << 30, self.overrun)
+            + bit_if(1 << 31, self.credits < 16)
+    }
+
+    /// Keeps the bits of a store to CTRL, and forgets an overrun.
+    pub fn keep(&mut self, kept: u32)
+        requires { kept < 2 ^ 23 }
+        ensures { self.new ≡ with_control self.old kept }
+    {
+        self.kept = kept;
+        self.overrun = false;
+    }
+
+    /// Takes the oldest received entry; 0 where there is none.
+    pub fn take(&mut self) -> u32
+        ensures word { result ≡ oldest self.old }
+        ensures rest { self.new ≡ taken self.old }
+    {
+        if self.received.is_empty() {
+            0
+        } else {
+            self.received.remove(0)
+        }
+    }
+
+    /// Uses a credit. False exactly where there is none.
+    pub fn spend(&mut self) -> bool
+        ensures found { result ≡ nat_lt 0 self.old.credits }
+        ensures rest { self.new ≡ spent self.old }
+    {
+        if self.credits == 0 {
+            return false;
+        }
+        self.credits -= 1;
+        true
+    }
+
+    fn credit(&mut self, credit: bool)
+        ensures { self.new ≡ credited self.old credit }
+    {
+        if credit && self.credits < 16 {
+            self.credits += 1;
+        }
+    }
+
+    fn receive(&mut self, has: bool, word: u32)
+        ensures { self.new ≡ received_by self.old has word }
+    {
+        if !has {
+            return;
+        }
+        if self.received.is_full() {
+            self.overrun = true;
+        } else {
+            self.received.push(word);
+        }
+    }
+
+    fn arrive_open(&mut self, up: Up)
+        ensures { self.new ≡ arrived_open self.old up }
+    {
+        if !up.done {
+            self.credit(up.credit);
+            self.receive(up.has, up.word);
+        }
+    }
+
+    /// Takes a message from the unit.
+    pub fn arrive(&mut self, up: Up)
+        ensures { self.new ≡ arrived self.old up }
+    {
+        if self.is_open() {
+            self.arrive_open(up);
+        } else if up.done {
+            self.owed.answer();
+        }
+    }
+
+    /// The interrupt line.
+    pub fn line(&self) -> bool
+        ensures { result ≡ line_of self.now }
+    {
+        self.kept / (1 << 22) % 2 == 1 && self.has_received()
+    }
+
+    /// Resets the front, which then waits for one answer more.
+    pub fn close(&mut self)
+        ensures { self.new ≡ closed self.old }
+    {
+        self.kept = 0;
+        self.overrun = false;
+        self.received.clear();
+        self.credits = 16;
+        self.owed.close();
+    }
+}

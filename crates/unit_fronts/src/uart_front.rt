@@ -1,0 +1,112 @@
+//! The front of a UART.
+ghost use Rattle.std.specs.Prelude.{◌≡◌, ◌≤◌, ◌⊎◌};
+
+use crate::port::Port;
+use chip_base::{Down, Up};
+use std::marker::Model;
+
+/// The bits of CTRL that a store writes: enable (0), prescaler (3 to 5), baud (6 to 15), interrupt enable (22).
+const WRITABLE: u32 = 0x0040_fff9;
+
+/// The registers of a UART in the hub: CTRL at offset 0 and DATA at offset 4.
+///
+/// No call takes memory. While the front is closed, loads give 0, stores are ignored and every message is dropped but one
+/// that says that a Reset was done.
+#[derive(Drop)]
+pub struct UartFront {
+    port: Port,
+}
+
+impl Model for UartFront {
+    ghost use Rattle.std.specs.Prelude.{◌≤◌};
+    ghost use Rattle.unit_fronts.specs.Port.{Port};
+
+    ghost Value = { Port };
+
+    ghost view = { λ f. f.port };
+
+    ghost invariant = { λ f. f.port.credits ≤ 16 };
+}
+
+impl UartFront {
+    ghost use Rattle.unit_fronts.specs.Counts.{SpendsCredits, HearsUnit};
+    ghost use Rattle.unit_fronts.specs.Port.{reset_owing, is_open_of, arrived, line_of, closed};
+    ghost use Rattle.unit_fronts.specs.UartFront.{load_word, loaded, stored, store_sent};
+
+    /// The front at power-on: open, with sixteen credits.
+    pub fn new() -> UartFront
+        ensures { result ≡ reset_owing 0 }
+    {
+        UartFront { port: Port::new() }
+    }
+
+    /// Loads the register at an offset. A load of DATA takes the oldest received byte, or gives 0.
+    pub fn load(&mut self, reg: u8) -> u32
+        requires register { (reg ≡ 0) ⊎ (reg ≡ 4) }
+        ensures word { result ≡ load_word self.old reg }
+        ensures front { self.new ≡ loaded self.old reg }
+    {
+        if !self.port.is_open() {
+            0
+        } else if reg == 0 {
+            self.port.control()
+        } else {
+            self.port.take()
+        }
+    }
+
+    /// Stores a word to the register at an offset and gives the message for the unit. None exactly where the front is closed,
+    /// or where a store to DATA finds no credit.
+    pub fn store(&mut self, reg: u8, word: u32) -> Option<Down>
+        requires register { (reg ≡ 0) ⊎ (reg ≡ 4) }
+        ensures message { result ≡ store_sent self.old reg word }
+        ensures front { self.new ≡ stored self.old reg word }
+        ensures credits { SpendsCredits self.old result self.new }
+    {
+        if !self.port.is_open() {
+            return None;
+        }
+        if reg == 0 {
+            let kept = word & WRITABLE;
+            self.port.keep(kept);
+            return Some(Down::Set { reg: 0, word: kept });
+        }
+        if self.port.spend() {
+            Some(Down::Set {
+                reg: 4,
+                word: word % 256,
+            })
+        } else {
+            None
+        }
+    }
+
+    /// Takes a message from the unit.
+    pub fn arrive(&mut self, up: Up)
+        ensures front { self.new ≡ arrived self.old up }
+        ensures credits { HearsUnit self.old up self.new }
+    {
+        self.port.arrive(up);
+    }
+
+    /// Whether the front's interrupt line is high: a received byte waits, and interrupts are enabled.
+    pub fn line(&self) -> bool
+        ensures { result ≡ line_of self.now }
+    {
+        self.port.line()
+    }
+
+    /// Closes the front. All but the count of owed answers takes its reset state.
+    pub fn close(&mut self)
+        ensures { self.new ≡ closed self.old }
+    {
+        self.port.close();
+    }
+
+    /// Whether every Reset was answered.
+    pub fn is_open(&self) -> bool
+        ensures { result ≡ is_open_of self.now }
+    {
+        self.port.is_open()
+    }
+}
