@@ -1,0 +1,4 @@
+pub mod Compared
+pub mod Pins
+pub mod Script
+pub mod Wave

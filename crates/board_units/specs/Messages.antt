@@ -1,0 +1,22 @@
+-- What the units say in a cycle.
+use Rattle.std.specs.Prelude.{◌==◌, ℕ, true, false, Option, None, Some, if◌then◌else◌}
+use Rattle.chip_base.specs.declared.event.Event.{Event}
+use Rattle.chip_base.specs.declared.event.EventKind.TheVariants.{Out}
+use Rattle.chip_base.specs.declared.message.Up.{Up}
+
+-- a word goes up
+abbrev pub word_up : ℕ → Up
+word_up word = record { done = false; fire = false; credit = false; has = true; word = word }
+
+-- says that a Reset was done
+abbrev pub done_up : Up
+done_up = record { done = true; fire = false; credit = false; has = false; word = 0 }
+
+-- says that a Reset was done, and carries a word
+abbrev pub done_with : ℕ → Up
+done_with word = record { done = true; fire = false; credit = false; has = true; word = word }
+
+-- the event of a unit whose outputs changed in a cycle
+abbrev pub change_event : ℕ → ℕ → ℕ → ℕ → Option Event
+change_event now unit before after =
+    if before == after then None else Some (record { cycle = now; unit = unit; kind = Out; value = after })
