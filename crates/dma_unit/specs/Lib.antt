@@ -1,0 +1,2 @@
+pub mod Copier
+pub mod Copying

@@ -1,0 +1,10 @@
+//! The copier of words from one address range to another.
+#![tactic(auto)]
+
+pub mod dma;
+pub mod state;
+#[cfg(test)]
+mod tests;
+
+pub use dma::Dma;
+pub use state::DmaState;
