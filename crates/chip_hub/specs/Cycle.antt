@@ -1,152 +1,135 @@
--- One cycle of the hub, and many of them.
-use Rattle.std.specs.Prelude.{◌==◌, ℕ, zero, suc, ◌+◌, ◌-◌, ◌*◌, ◌%◌, ◌^◌, List, [], ◌∷◌, ◌++◌, drop, length, slice_index, slice_set, Option, Some, None, Result, Ok, Err, if◌then◌else◌, is_some, is_ok, replicate}
-use Rattle.soc_words.specs.Word.{wrapped_sum}
-use Rattle.rv_decode.specs.declared.instr.Instr.{Instr}
-use Rattle.rv_decode.specs.declared.instr.Op.{Op}
-use Rattle.rv_decode.specs.declared.instr.Op.TheVariants.{Lui, Jal, Sw, Addi}
-use Rattle.rv_decode.specs.Rows.{decoded}
+-- One cycle of the hub.
+use Rattle.std.specs.Prelude.{◌==◌, ℕ, ◌+◌, Bool, List, ◌++◌, drop, length, Option, Some, None, Result, Ok, Err, if◌then◌else◌, is_some, get_or}
+use Rattle.chip_base.specs.declared.boot.BootView.{BootView}
+use Rattle.chip_base.specs.declared.boot.BootView.TheVariants.{Raw}
 use Rattle.chip_base.specs.declared.hart.HartView.{HartView}
-use Rattle.chip_base.specs.declared.hart.PhaseWord.{PhaseWord}
-use Rattle.chip_base.specs.declared.hart.PhaseWord.TheVariants.{Ready, Run as Running, Want as Wanting, Parked}
-use Rattle.chip_base.specs.declared.message.Down.{Down}
 use Rattle.chip_base.specs.declared.message.Up.{Up}
 use Rattle.chip_base.specs.Settings.{Values}
-use Rattle.soc_bus.specs.Memory.{Memories, load_of, store_of, zeros}
+use Rattle.core_pair.specs.Access.{granted_with}
+use Rattle.core_pair.specs.Clint.{reset_clint, clint_ticked}
+use Rattle.core_pair.specs.Core.{CoreState, reset_core, started, wanted_in, view_of}
+use Rattle.core_pair.specs.Mailbox.{reset_mailbox, mailbox_word}
+use Rattle.core_pair.specs.Turn.{turned}
+use Rattle.core_pair.specs.declared.phase.Phase.{Phase}
+use Rattle.core_pair.specs.declared.phase.Phase.TheVariants.{Parked}
+use Rattle.soc_bus.specs.Rotation.{granted, after_grant}
+use Rattle.csr_file.specs.Table.{read_at}
+use Rattle.soc_bus.specs.Memory.{load_of, zeros}
 use Rattle.soc_bus.specs.declared.access.BusFault.{BusFault}
+use Rattle.soc_bus.specs.declared.access.Width.TheVariants.{Word}
 use Rattle.soc_bus.specs.declared.access.Request.{Request}
-use Rattle.soc_bus.specs.declared.access.Width.TheVariants.{Half, Word}
-use Rattle.chip_hub.specs.declared.core0.Core.{Core}
-use Rattle.chip_hub.specs.declared.core0.Phase.{Phase}
-use Rattle.chip_hub.specs.declared.core0.Phase.TheVariants.{Run, Want}
+use Rattle.soc_bus.specs.declared.arbiter.Master.{Master}
+use Rattle.soc_bus.specs.declared.arbiter.Master.TheVariants.{Core0, Core1, Dma}
+use Rattle.dma_unit.specs.Copier.{reset_copier, wanted as dma_wanted, granted_with as dma_granted}
+use Rattle.unit_fronts.specs.GpioFront.{PinRegisters, arrived as pins_arrived, reset_owing as pins_reset}
+use Rattle.unit_fronts.specs.Port.{Port, arrived, reset_owing}
+use Rattle.unit_fronts.specs.PwmFront.{DutyRegisters, arrived as duty_arrived, reset_owing as duty_reset}
+use Rattle.chip_hub.specs.Access.{Accessed, accessed, bit_if, silent}
+use Rattle.chip_hub.specs.Lines.{mip_of}
 use Rattle.chip_hub.specs.State.{State, Step}
 
--- a register after a write; x0 keeps zero
-abbrev pub with_register : List ℕ → ℕ → ℕ → List ℕ
-with_register regs number value = if number == 0 then regs else slice_set regs number value
+-- 1. what arrives from the units reaches their fronts
 
--- a word from its two halves, if both are there
-abbrev pub joined_halves : Result ℕ BusFault → Result ℕ BusFault → Option ℕ
-joined_halves (Ok low) (Ok high) = Some (low + 2 ^ 16 * high)
-joined_halves low high = None
+abbrev pub heard_by : Port → Option Up → Port
+heard_by front None = front
+heard_by front (Some up) = arrived front up
 
--- the word of the four bytes from an address on, if all of them lie in the memories
-abbrev pub fetched : Memories → ℕ → Option ℕ
-fetched m pc = joined_halves (load_of m pc Half) (load_of m (wrapped_sum pc 2) Half)
+abbrev pub heard_by_gpio : PinRegisters → Option Up → PinRegisters
+heard_by_gpio front None = front
+heard_by_gpio front (Some up) = pins_arrived front up
 
--- the core after an instruction that writes `value` to its register and goes on at `next`, of this cost
-abbrev pub retired_with : Core → ℕ → ℕ → ℕ → ℕ → Core
-retired_with c number value next cost = record c {
-  regs = with_register c.regs number value;
-  pc = next;
-  retired = (c.retired + 1) % 2 ^ 64;
-  phase = Run (cost - 1);
+abbrev pub heard_by_pwm : DutyRegisters → Option Up → DutyRegisters
+heard_by_pwm front None = front
+heard_by_pwm front (Some up) = duty_arrived front up
+
+abbrev pub heard : State → List (Option Up) → State
+heard s ups = record s {
+  fronts = record {
+    uart0 = heard_by s.fronts.uart0 (get_or ups 0 None);
+    gpio = heard_by_gpio s.fronts.gpio (get_or ups 3 None);
+    pwm = heard_by_pwm s.fronts.pwm (get_or ups 4 None);
+  };
 }
 
--- the core waits for the grant of a store of a word
-abbrev pub wanting : Core → ℕ → ℕ → Core
-wanting c address value = record c { phase = Want (record { addr = address; width = Word; store = Some value }) }
+-- 2. mtime adds one
 
-abbrev pub stopped : State → ℕ → ℕ → State
-stopped s now value = record s { unbuilt = Some (now, value) }
+abbrev pub timed : State → State
+timed s = record s { clint = clint_ticked s.clint }
 
--- a store goes on where its four bytes are a word of one of the memories
-abbrev pub stores : State → ℕ → ℕ → ℕ → ℕ → State
-stores s now word address value =
-    if is_ok (load_of s.memory address Word) then record s { core = wanting s.core address value } else stopped s now word
+-- 3. core 0's turn
 
-abbrev pub executed : State → ℕ → ℕ → Instr → Op → State
-executed s now word i Lui = record s { core = retired_with s.core i.rd i.imm (wrapped_sum s.core.pc 4) 2 }
-executed s now word i Addi = record s {
-  core = retired_with s.core i.rd (wrapped_sum (slice_index s.core.regs i.rs1) i.imm) (wrapped_sum s.core.pc 4) 2;
-}
-executed s now word i Jal = record s {
-  core = retired_with s.core i.rd (wrapped_sum s.core.pc 4) (wrapped_sum s.core.pc i.imm) 6;
-}
-executed s now word i Sw =
-    stores s now word (wrapped_sum (slice_index s.core.regs i.rs1) i.imm) (slice_index s.core.regs i.rs2)
+abbrev pub turn0 : State → ℕ → State
+turn0 s now = record s { core0 = (turned s.core0 now (mip_of s 0) s.memory).after }
 
-abbrev pub issued : State → ℕ → ℕ → Option Instr → State
-issued s now word None = stopped s now word
-issued s now word (Some i) = executed s now word i i.op
+-- 4. core 1's turn: while it is parked its software interrupt starts it, with pc and stack pointer from the mailbox
 
-abbrev pub acted_on : State → ℕ → Option ℕ → State
-acted_on s now None = stopped s now s.core.pc
-acted_on s now (Some word) = issued s now word (decoded word)
+abbrev pub started_by : State → Bool → CoreState
+started_by s wanted = if wanted then started s.core1 (mailbox_word s.mailbox 0) (mailbox_word s.mailbox 4) else s.core1
 
--- the core acts: it fetches, decodes and executes
-abbrev pub acted : State → ℕ → State
-acted s now = acted_on s now (fetched s.memory s.core.pc)
+abbrev pub turned1 : State → ℕ → Phase → CoreState
+turned1 s now Parked = started_by s (s.clint.msip1 == 1)
+turned1 s now _ = (turned s.core1 now (mip_of s 1) s.memory).after
 
-abbrev pub turn_in : State → ℕ → Phase → State
-turn_in s now (Run left) = if left == 0 then acted s now else record s { core = record s.core { phase = Run (left - 1) } }
-turn_in s now (Want request) = s
+abbrev pub turn1 : State → ℕ → State
+turn1 s now = record s { core1 = turned1 s now s.core1.phase }
 
--- the core's turn: it acts where nothing is left of the instruction before
-abbrev pub turn : State → ℕ → State
-turn s now = turn_in s now s.core.phase
+-- 5. who wants the bus: bit 0 is core 0, bit 1 core 1, bit 2 the DMA
 
--- the core after the grant of its store
-abbrev pub served : Core → Core
-served c = record c { pc = wrapped_sum c.pc 4; retired = (c.retired + 1) % 2 ^ 64; phase = Run 4 }
+abbrev pub wants_of : State → ℕ
+wants_of s = bit_if 0 (is_some (wanted_in s.core0.phase)) + bit_if 1 (is_some (wanted_in s.core1.phase)) + bit_if 2 (is_some (dma_wanted s.dma))
 
-abbrev pub stored_in : State → Result Memories BusFault → State
-stored_in s (Err fault) = s
-stored_in s (Ok m) = record s { memory = m; core = served s.core }
+-- 6. one of them is granted its access, and is given the answer
 
-abbrev pub granted_to : State → ℕ → Option ℕ → State
-granted_to s address None = s
-granted_to s address (Some value) = stored_in s (store_of s.memory address Word value)
+abbrev pub quiet : State → Step
+quiet s = record { hub = s; downs = silent }
 
-abbrev pub granted_in : State → Phase → State
-granted_in s (Run left) = s
-granted_in s (Want request) = granted_to s request.addr request.store
+abbrev pub answered0 : Accessed → Step
+answered0 a = record { hub = record a.hub { core0 = granted_with a.hub.core0 a.answer }; downs = a.downs }
 
--- the grant of the store that the core wants, if it wants one
-abbrev pub granted : State → State
-granted s = granted_in s s.core.phase
+abbrev pub answered1 : Accessed → Step
+answered1 a = record { hub = record a.hub { core1 = granted_with a.hub.core1 a.answer }; downs = a.downs }
 
--- no message for any of the seven units
-abbrev pub silent : List (Option Down)
-silent = None ∷ None ∷ None ∷ None ∷ None ∷ None ∷ None ∷ []
+abbrev pub answered2 : Accessed → Step
+answered2 a = record { hub = record a.hub { dma = dma_granted a.hub.dma a.answer }; downs = a.downs }
 
--- one cycle; from the cycle on in which something isn't built the hub doesn't change
+abbrev pub served0 : State → Option Request → Step
+served0 s None = quiet s
+served0 s (Some request) = answered0 (accessed s request)
+
+abbrev pub served1 : State → Option Request → Step
+served1 s None = quiet s
+served1 s (Some request) = answered1 (accessed s request)
+
+abbrev pub served2 : State → Option Request → Step
+served2 s None = quiet s
+served2 s (Some request) = answered2 (accessed s request)
+
+abbrev pub served_to : State → Option Master → Step
+served_to s None = quiet s
+served_to s (Some Core0) = served0 s (wanted_in s.core0.phase)
+served_to s (Some Core1) = served1 s (wanted_in s.core1.phase)
+served_to s (Some Dma) = served2 s (dma_wanted s.dma)
+
+abbrev pub served : State → Step
+served s = served_to (record s { arbiter = after_grant s.arbiter (wants_of s) }) (granted s.arbiter (wants_of s))
+
+-- one cycle, in these six steps
 unfoldable pub hub_cycle : State → ℕ → List (Option Up) → Step
-hub_cycle s now ups = record { hub = if is_some s.unbuilt then s else granted (turn s now); downs = silent }
-
--- nothing arrives from any of the seven units
-abbrev pub none_arrive : List (Option Up)
-none_arrive = None ∷ None ∷ None ∷ None ∷ None ∷ None ∷ None ∷ []
-
--- the state after the first n cycles
-unfoldable pub after : State → ℕ → State
-after s zero = s
-after s (suc n) = (hub_cycle (after s n) n none_arrive).hub
-
--- core 0 at power-on
-abbrev pub core_start : Core
-core_start = record { regs = replicate 32 0; pc = 0; retired = 0; phase = Run 0 }
+hub_cycle s now ups = served (turn1 (turn0 (timed (heard s ups)) now) now)
 
 -- the hub at power-on, with these bytes from address 0 of IMEM
 abbrev pub start : Values → List ℕ → State
 start v image = record {
-  core = core_start;
+  clock = v.clock;
+  core0 = reset_core 0;
+  core1 = reset_core 1;
   memory = record { imem = image ++ drop (length image) (zeros v.imem); dmem = zeros v.dmem };
-  unbuilt = None;
+  arbiter = record { last = Dma };
+  dma = reset_copier;
+  clint = reset_clint;
+  mailbox = reset_mailbox;
+  fronts = record { uart0 = reset_owing 0; gpio = pins_reset 0; pwm = duty_reset 0 };
 }
-
-abbrev pub phase_word : Phase → PhaseWord
-phase_word (Run left) = if left == 0 then Ready else Running
-phase_word (Want request) = Wanting
-
-abbrev pub core_view : Core → HartView
-core_view c = record { phase = phase_word c.phase; pc = c.pc; retired = c.retired; regs = c.regs }
-
--- hart 1 isn't built: it stays parked
-abbrev pub parked_view : HartView
-parked_view = record { phase = Parked; pc = 0; retired = 0; regs = replicate 32 0 }
-
-abbrev pub hart_view : State → ℕ → HartView
-hart_view s hart = if hart == 0 then core_view s.core else parked_view
 
 abbrev pub loaded_word : Result ℕ BusFault → Option ℕ
 loaded_word (Ok word) = Some word
@@ -155,3 +138,15 @@ loaded_word (Err fault) = None
 -- the word at an address, if it is that of a word of the memories
 abbrev pub word_at : State → ℕ → Option ℕ
 word_at s address = loaded_word (load_of s.memory address Word)
+
+-- a hart as a report shows it
+abbrev pub hart_view : State → ℕ → HartView
+hart_view s hart = if hart == 0 then view_of s.core0 else view_of s.core1
+
+-- a CSR of a hart, mip as the lines stand
+abbrev pub csr_at : State → ℕ → ℕ → Option ℕ
+csr_at s hart number = if hart == 0 then read_at s.core0.csrs number (mip_of s 0) else read_at s.core1.csrs number (mip_of s 1)
+
+-- core 0 began with the raw bytes of the file
+abbrev pub boot_view : BootView
+boot_view = Raw

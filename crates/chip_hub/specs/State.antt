@@ -1,14 +1,33 @@
--- The state of a hub: core 0 and the two memories.
+-- The state of a hub.
 use Rattle.std.specs.Prelude.{ℕ, List, Option}
 use Rattle.chip_base.specs.declared.message.Down.{Down}
-use Rattle.chip_hub.specs.declared.core0.Core.{Core}
+use Rattle.core_pair.specs.Clint.{ClintState}
+use Rattle.core_pair.specs.Core.{CoreState}
+use Rattle.core_pair.specs.Mailbox.{MailboxState}
 use Rattle.soc_bus.specs.Memory.{Memories}
+use Rattle.soc_bus.specs.Rotation.{Turns}
+use Rattle.dma_unit.specs.Copier.{Copier}
+use Rattle.unit_fronts.specs.GpioFront.{PinRegisters}
+use Rattle.unit_fronts.specs.Port.{Port}
+use Rattle.unit_fronts.specs.PwmFront.{DutyRegisters}
+
+-- the fronts of the units that are built
+pub record Fronts : Type 0 where
+  pub uart0 : Port
+  pub gpio : PinRegisters
+  pub pwm : DutyRegisters
 
 pub record State : Type 0 where
-  pub core : Core
+  -- the clock in hertz, as the settings give it
+  pub clock : ℕ
+  pub core0 : CoreState
+  pub core1 : CoreState
   pub memory : Memories
-  -- the first cycle in which core 0 met what isn't built, with the word or, where no word is there, the pc
-  pub unbuilt : Option (ℕ × ℕ)
+  pub arbiter : Turns
+  pub dma : Copier
+  pub clint : ClintState
+  pub mailbox : MailboxState
+  pub fronts : Fronts
 
 -- what a cycle gives: the state after it, and for each of the seven units the message that goes down to it
 pub record Step : Type 0 where

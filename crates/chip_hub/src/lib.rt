@@ -1,10 +1,11 @@
-//! The hub: core 0 and the memories, one cycle at a time. Four instructions are built: `lui`, `addi`, `jal` and `sw`.
+//! The hub: two cores, the memories, the bus and the fronts of the units, one cycle at a time.
 #![tactic(auto)]
 
-pub mod core0;
+mod access;
+mod cycle;
 pub mod hub;
+mod parts;
 
-pub use core0::{Core, Phase};
 pub use hub::{Hub, fits};
 
 #[cfg(test)]

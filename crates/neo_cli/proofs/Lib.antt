@@ -1,2 +1,4 @@
+pub mod Events
 pub mod Rows
+pub mod Stretches
 pub mod Told

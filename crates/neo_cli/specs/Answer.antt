@@ -1,10 +1,9 @@
 -- What a job is answered: a status and a text.
-use Rattle.std.specs.Prelude.{ℕ, List, [], ◌++◌, length, codes, Option, Some, None, is_some, nat_lt, if◌then◌else◌}
+use Rattle.std.specs.Prelude.{ℕ, List, [], ◌++◌, length, codes, decimal, Option, Some, None, nat_lt, if◌then◌else◌}
 use Rattle.soc_words.specs.Text.{line}
 use Rattle.chip_base.specs.Settings.{standard}
-use Rattle.chip_base.specs.declared.boot.BootView.TheVariants.{Raw}
-use Rattle.chip_hub.specs.State.{State}
-use Rattle.chip_hub.specs.Cycle.{after, start, hart_view}
+use Rattle.chip_hub.specs.Cycle.{boot_view, hart_view}
+use Rattle.chip_net.specs.Chip.{State, after, start}
 use Rattle.neo_cli.specs.Job.{Job}
 use Rattle.neo_cli.specs.Report.{Shown, report}
 
@@ -15,38 +14,33 @@ pub record Answer : Type 0 where
 unfoldable pub usage_text : List ℕ
 usage_text = line (codes "error usage")
 
-unfoldable pub unbuilt_text : List ℕ
-unbuilt_text = line (codes "error not built")
-
 unfoldable pub unread_text : List ℕ → List ℕ
 unread_text name = line (codes "error read " ++ name)
 
 unfoldable pub long_text : List ℕ → List ℕ
 long_text name = line (codes "error long " ++ name)
 
--- what a report shows of a hub after this many cycles
+-- a file of this many bytes is longer than IMEM
+unfoldable pub size_text : ℕ → List ℕ
+size_text bytes = line (codes "error image size " ++ decimal bytes)
+
+-- what a report shows of a chip after this many cycles
 abbrev pub shown : State → ℕ → Shown
-shown hub cycles = record {
+shown chip cycles = record {
   cycles = cycles;
-  events = [];
-  boot = Raw;
-  hart0 = hart_view hub 0;
-  hart1 = hart_view hub 1;
-  imem = hub.memory.imem;
-  dmem = hub.memory.dmem;
+  events = chip.events;
+  boot = boot_view;
+  hart0 = hart_view chip.hub 0;
+  hart1 = hart_view chip.hub 1;
+  imem = chip.hub.memory.imem;
+  dmem = chip.hub.memory.dmem;
 }
 
--- the report of a hub, unless it met what isn't built
-abbrev pub hub_answer : State → ℕ → Answer
-hub_answer hub cycles =
-    if is_some hub.unbuilt then record { status = 11; text = unbuilt_text }
-    else record { status = 0; text = report (shown hub cycles) }
-
--- an image is run from power-on; it must have room in IMEM
+-- an image is run from power-on, and what it leaves is reported; it must have room in IMEM
 abbrev pub run_answer : List ℕ → ℕ → Answer
 run_answer image cycles =
-    if nat_lt 65536 (length image) then record { status = 11; text = unbuilt_text }
-    else hub_answer (after (start standard image) cycles) cycles
+    if nat_lt 65536 (length image) then record { status = 4; text = size_text (length image) }
+    else record { status = 0; text = report (shown (after (start standard image []) cycles) cycles) }
 
 -- a file must be there and have at most 2,097,152 bytes
 abbrev pub file_answer : List ℕ → ℕ → Option (List ℕ) → Answer

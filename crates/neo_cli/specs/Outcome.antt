@@ -2,16 +2,16 @@
 use Rattle.std.specs.Prelude.{◌≡◌, ℕ, ◌<◌, ◌≤◌, ◌⊎◌, Bool, false, IsTrue, List, [], length, Option, Some, None}
 use Rattle.soc_words.specs.Causes.{Rose, appended, AppendsBeginning}
 use Rattle.neo_cli.specs.declared.outcome.Outcome.{Outcome}
-use Rattle.neo_cli.specs.declared.outcome.Outcome.TheVariants.{Unread, Long, NotBuilt, Ran, Memory}
+use Rattle.neo_cli.specs.declared.outcome.Outcome.TheVariants.{Unread, Long, TooLarge, Ran, Memory}
 use Rattle.neo_cli.specs.Report.{report}
-use Rattle.neo_cli.specs.Answer.{Answer, unbuilt_text, unread_text, long_text, run_answer, shown}
+use Rattle.neo_cli.specs.Answer.{Answer, unread_text, long_text, size_text, run_answer, shown}
 
 -- the answer that an outcome asks for
 abbrev pub told_answer : List ℕ → ℕ → Outcome → Answer
 told_answer name cycles Unread = record { status = 3; text = unread_text name }
 told_answer name cycles Long = record { status = 3; text = long_text name }
-told_answer name cycles NotBuilt = record { status = 11; text = unbuilt_text }
-told_answer name cycles (Ran hub) = record { status = 0; text = report (shown hub cycles) }
+told_answer name cycles (TooLarge size) = record { status = 4; text = size_text size }
+told_answer name cycles (Ran chip) = record { status = 0; text = report (shown chip cycles) }
 told_answer name cycles Memory = record { status = 9; text = [] }
 
 -- the outcome is what these bytes give, which are the file where the shelf tells it
@@ -37,14 +37,9 @@ IsTooLong told file before now = (IsTrue told × IsLong file) ⊎ ((told ≡ fal
 abbrev pub Decides : Bool → Option (List ℕ) → List ℕ → ℕ → ℕ → ℕ → Outcome → Type 0
 Decides told file name cycles before now Unread = IsUnread told file before now
 Decides told file name cycles before now Long = IsTooLong told file before now
-Decides told file name cycles before now NotBuilt = (now ≡ before) × RunsFile told file name cycles NotBuilt
-Decides told file name cycles before now (Ran hub) = (now ≡ before) × RunsFile told file name cycles (Ran hub)
+Decides told file name cycles before now (TooLarge size) = (now ≡ before) × RunsFile told file name cycles (TooLarge size)
+Decides told file name cycles before now (Ran chip) = (now ≡ before) × RunsFile told file name cycles (Ran chip)
 Decides told file name cycles before now Memory = Unit {0}
-
--- both memories of a hub that ran have the size that they were made with
-abbrev pub IsWhole : Outcome → Type 0
-IsWhole (Ran hub) = (length hub.memory.imem ≡ 65536) × (length hub.memory.dmem ≡ 65536)
-IsWhole outcome = Unit {0}
 
 -- an answer is told: with its status, or with 9, or with 7 where a text of status 0 is refused. A beginning of the text is
 -- appended, and all of it where memory is had and the sink doesn't fail.

@@ -1,6 +1,6 @@
 -- The text of a report.
 use Rattle.std.specs.Prelude.{◌==◌, ℕ, ◌+◌, ◌*◌, ◌/◌, ◌%◌, List, [], ◌∷◌, ◌++◌, length, slice_index, slice_range, codes, decimal, if◌then◌else◌}
-use Rattle.std.specs.List.{list_all}
+use Rattle.std.specs.List.{flat_map, list_all}
 use Rattle.hex.specs.Hex.{encode_lower}
 use Rattle.soc_words.specs.Text.{hex_word, line, joined_below}
 use Rattle.chip_base.specs.declared.boot.BootView.{BootView}
@@ -31,22 +31,29 @@ abbrev pub unit_name : ℕ → List ℕ
 unit_name unit =
     if unit == 1 then codes "uart0" else if unit == 2 then codes "uart1" else if unit == 3 then codes "spi"
     else if unit == 4 then codes "gpio" else if unit == 5 then codes "pwm" else if unit == 6 then codes "slink"
-    else codes "wdt"
+    else if unit == 7 then codes "wdt" else codes "hub"
 
--- what happened, with its value: a byte that was sent in two digits, all else in eight
-abbrev pub happened : EventKind → ℕ → List ℕ
-happened Tx value = codes "tx " ++ encode_lower (value % 256 ∷ [])
-happened Out value = codes "out " ++ hex_word value
-happened Word value = codes "word " ++ hex_word value
-happened Last value = codes "last " ++ hex_word value
-happened Fire value = codes "fire " ++ hex_word value
+abbrev pub kind_name : EventKind → List ℕ
+kind_name Tx = codes "tx"
+kind_name Out = codes "out"
+kind_name Word = codes "word"
+kind_name Last = codes "last"
+kind_name Fire = codes "fire"
+
+-- a UART's value is a byte, in two digits; all else is a word, in eight
+abbrev pub value_text : ℕ → ℕ → List ℕ
+value_text unit value =
+    if unit == 1 then encode_lower (value % 256 ∷ []) else if unit == 2 then encode_lower (value % 256 ∷ [])
+    else hex_word value
 
 unfoldable pub event_text : Event → List ℕ
-event_text e = line (decimal e.cycle ++ codes " " ++ unit_name e.unit ++ codes " " ++ happened e.kind e.value)
+event_text e =
+    line (decimal e.cycle ++ codes " " ++ unit_name e.unit ++ codes " " ++ kind_name e.kind ++ codes " "
+    ++ value_text e.unit e.value)
 
+-- the lines of events, in their order
 abbrev pub events_text : List Event → List ℕ
-events_text [] = []
-events_text (e ∷ events) = event_text e ++ events_text events
+events_text events = flat_map event_text events
 
 unfoldable pub boot_text : BootView → List ℕ
 boot_text Raw = line (codes "boot raw")
@@ -102,7 +109,7 @@ unfoldable pub end_text : List ℕ
 end_text = line (codes "end")
 
 abbrev pub head_text : Shown → List ℕ
-head_text s = cycles_text s.cycles ++ (events_text s.events ++ boot_text s.boot)
+head_text s = cycles_text s.cycles ++ events_text s.events ++ boot_text s.boot
 
 abbrev pub harts_text : Shown → List ℕ
 harts_text s = hart_lines_text 0 s.hart0 ++ unless_parked s.hart1.phase (hart_lines_text 1 s.hart1)

@@ -1,12 +1,12 @@
 -- What a status says of the text that was written, and of the counts of faults.
-use Rattle.std.specs.Prelude.{◌≡◌, ◌≢◌, ℕ, ◌≤◌, ◌⊎◌, Bool, IsTrue, List, length, Option, Some}
+use Rattle.std.specs.Prelude.{◌≡◌, ◌≢◌, ℕ, ◌<◌, ◌≤◌, ◌⊎◌, Bool, IsTrue, List, length, Option, Some}
 use Rattle.soc_words.specs.Causes.{Rose, appended, AppendsBeginning}
-use Rattle.neo_cli.specs.Answer.{Answer, unread_text, long_text, run_answer}
+use Rattle.neo_cli.specs.Answer.{Answer, unread_text, long_text, size_text, run_answer}
 use Rattle.neo_cli.specs.Outcome.{IsUnread, IsTooLong, Tells}
 
 -- the statuses that there are
 abbrev pub IsStatus : ℕ → Type 0
-IsStatus s = (s ≡ 0) ⊎ ((s ≡ 2) ⊎ ((s ≡ 3) ⊎ ((s ≡ 7) ⊎ ((s ≡ 9) ⊎ (s ≡ 11)))))
+IsStatus s = (s ≡ 0) ⊎ ((s ≡ 2) ⊎ ((s ≡ 3) ⊎ ((s ≡ 4) ⊎ ((s ≡ 7) ⊎ (s ≡ 9)))))
 
 -- the status is the answer's and the whole text was appended, or memory was wanted and a beginning was appended
 abbrev pub Completes : Answer → Option (List ℕ) → Option (List ℕ) → ℕ → Type 0
@@ -46,3 +46,10 @@ IsRun told file cycles read_before read_now old new before now status =
     status ≢ 2 → status ≢ 3 → status ≢ 9
     → (read_now ≡ read_before) × ((bytes : List ℕ) × (IsTrue told → file ≡ Some bytes) × (length bytes ≤ 2097152)
     × Tells (run_answer bytes cycles) old new before now status)
+
+-- 4 comes only where the bytes that were read are more than IMEM has, with a beginning of the line that says how many they are,
+-- and all of it where the sink didn't fail
+abbrev pub IsTooLarge : Bool → Option (List ℕ) → Option (List ℕ) → Option (List ℕ) → ℕ → ℕ → ℕ → Type 0
+IsTooLarge told file old new before now status =
+    status ≡ 4 → (bytes : List ℕ) × (IsTrue told → file ≡ Some bytes) × (65536 < length bytes)
+    × AppendsBeginning old new (size_text (length bytes)) × ((Rose before now → ⊥) → new ≡ appended old (size_text (length bytes)))

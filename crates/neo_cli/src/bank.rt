@@ -1,8 +1,8 @@
 //! The bytes of the memories, row by row.
-ghost use Rattle.std.specs.Prelude.{◌≡◌, ℕ, ◌+◌, ◌*◌, ◌%◌, ◌^◌, ◌<◌, ◌≤◌, ◌++◌, List, length, slice_range};
-ghost use Rattle.neo_cli.specs.Bank.{base_of, bytes_of, IsSized};
+ghost use Rattle.std.specs.Prelude.{◌≡◌, ℕ, ◌+◌, ◌*◌, ◌/◌, ◌%◌, ◌<◌, ◌≤◌, ◌++◌, List, length, slice_range};
+ghost use Rattle.neo_cli.specs.Bank.{base_of, bytes_of};
 
-use chip_hub::Hub;
+use chip_net::Chip;
 
 /// One of the two memories.
 #[derive(Clone, Copy, Debug, PartialEq, Eq)]
@@ -36,29 +36,40 @@ impl Bank {
         }
     }
 
-    /// The four bytes from a multiple of four on.
-    fn word(self, hub: &Hub, at: u32) -> [u8; 4]
-        requires size { IsSized hub.now self }
-        requires place { at % 4 ≡ 0 }
-        requires room { at + 4 ≤ 65536 }
-        ensures { result ≡ slice_range (bytes_of hub.now self) at (at + 4) }
+    /// The number of rows of sixteen bytes.
+    pub fn rows(self, chip: &Chip) -> u32
+        ensures value { result ≡ length (bytes_of chip.now.hub self) / 16 }
+        ensures few { result ≤ 65536 }
     {
-        match hub.word(self.base() + at) {
+        match self {
+            Bank::Imem => chip.imem_size() / 16,
+            Bank::Dmem => chip.dmem_size() / 16,
+        }
+    }
+
+    /// The four bytes from a multiple of four on.
+    fn word(self, chip: &Chip, at: u32) -> [u8; 4]
+        requires place { at % 4 ≡ 0 }
+        requires below { at < 1048576 }
+        requires room { at + 4 ≤ length (bytes_of chip.now.hub self) }
+        ensures { result ≡ slice_range (bytes_of chip.now.hub self) at (at + 4) }
+    {
+        match chip.word(self.base() + at) {
             Some(word) => word.to_le_bytes(),
             None => [0; 4],
         }
     }
 
     /// The row of sixteen bytes of this number.
-    pub fn row(self, hub: &Hub, number: u32) -> [u8; 16]
-        requires size { IsSized hub.now self }
-        requires room { number < 4096 }
-        ensures { result ≡ slice_range (bytes_of hub.now self) (16 * number) (16 * number + 16) }
+    pub fn row(self, chip: &Chip, number: u32) -> [u8; 16]
+        requires below { number < 65536 }
+        requires room { 16 * number + 16 ≤ length (bytes_of chip.now.hub self) }
+        ensures { result ≡ slice_range (bytes_of chip.now.hub self) (16 * number) (16 * number + 16) }
     {
         let at = 16 * number;
-        let first = self.word(hub, at);
-        let second = self.word(hub, at + 4);
-        let third = self.word(hub, at + 8);
-        joined(first, second, third, self.word(hub, at + 12))
+        let first = self.word(chip, at);
+        let second = self.word(chip, at + 4);
+        let third = self.word(chip, at + 8);
+        joined(first, second, third, self.word(chip, at + 12))
     }
 }

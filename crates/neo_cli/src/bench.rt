@@ -4,7 +4,7 @@ ghost use Rattle.soc_words.specs.Causes.{Rose};
 ghost use Rattle.neo_cli.specs.Job.{job_of};
 ghost use Rattle.neo_cli.specs.Answer.{answer, usage_text};
 ghost use Rattle.neo_cli.specs.Outcome.{Tells};
-ghost use Rattle.neo_cli.specs.Told.{IsStatus, Completes, IsAnswered, IsCutShort, IsWantOfMemory, IsRefused, IsRun};
+ghost use Rattle.neo_cli.specs.Told.{IsStatus, Completes, IsAnswered, IsCutShort, IsWantOfMemory, IsRefused, IsTooLarge, IsRun};
 
 use crate::outcome::{decide, refuse_usage, tell};
 use crate::words;
@@ -20,10 +20,9 @@ use std::thread::Threads;
 /// - 2 where the words give no job, after the line `error usage`,
 /// - 3 where the file isn't there or reading it failed, after `error read IMAGE`, or where it has more than 2,097,152 bytes,
 ///   after `error long IMAGE`,
+/// - 4 where the file has more than 65,536 bytes, after `error image size N` with their number N,
 /// - 7 where the sink failed in the report,
-/// - 9 where memory was wanted,
-/// - 11 where the file has more than 65,536 bytes or the run met an instruction or access that isn't built, after
-///   `error not built`.
+/// - 9 where memory was wanted.
 pub fn bench<R: Threads + Sync, S: Shelf, O: Sink>(
     rt: &R,
     alloc: Global,
@@ -47,6 +46,8 @@ pub fn bench<R: Threads + Sync, S: Shelf, O: Sink>(
     ensures refused { IfSome (job_of (map string_bytes words.now.items)) (λ job.
         IsRefused (S.told shelf.old) (S.file shelf.old job.image) job.image (S.read_faults shelf.old) (S.read_faults shelf.new)
         (O.written out.old) (O.written out.new) (O.faults out.old) (O.faults out.new) result) }
+    ensures too_large { IfSome (job_of (map string_bytes words.now.items)) (λ job.
+        IsTooLarge (S.told shelf.old) (S.file shelf.old job.image) (O.written out.old) (O.written out.new) (O.faults out.old) (O.faults out.new) result) }
     ensures ran { IfSome (job_of (map string_bytes words.now.items)) (λ job.
         IsRun (S.told shelf.old) (S.file shelf.old job.image) job.cycles (S.read_faults shelf.old) (S.read_faults shelf.new)
         (O.written out.old) (O.written out.new) (O.faults out.old) (O.faults out.new) result) }

@@ -5,6 +5,7 @@ mod bank;
 mod bench;
 mod outcome;
 mod report;
+mod run;
 #[cfg(test)]
 mod tests;
 mod words;

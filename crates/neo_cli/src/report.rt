@@ -4,19 +4,16 @@ ghost use Rattle.std.specs.List.{list_all};
 ghost use Rattle.hex.specs.Hex.{encode_lower};
 ghost use Rattle.soc_words.specs.Text.{line, hex_word, joined_below};
 ghost use Rattle.bench_shelf.specs.Sink.{Writes};
-ghost use Rattle.chip_base.specs.declared.boot.BootView.TheVariants.{Raw};
-ghost use Rattle.neo_cli.specs.Bank.{base_of, bytes_of, IsSized};
-ghost use Rattle.neo_cli.specs.Report.{cycles_text, boot_text, phase_text, hart_text, register_text, register_text_in, hart_lines_text, unless_parked, row_text, row_text_in, memory_text, end_text, head_text, harts_text, tail_text, report};
+ghost use Rattle.neo_cli.specs.Bank.{base_of, bytes_of};
+ghost use Rattle.neo_cli.specs.Report.{cycles_text, unit_name, kind_name, value_text, event_text, events_text, boot_text, phase_text, hart_text, register_text, register_text_in, hart_lines_text, unless_parked, row_text, row_text_in, memory_text, end_text, head_text, harts_text, tail_text, report};
 ghost use Rattle.neo_cli.specs.Answer.{shown};
 
 use crate::bank::Bank;
+use crate::run::Run;
 use bench_shelf::{Sink, SinkFault};
-use chip_base::{HartView, PhaseWord};
-use chip_hub::Hub;
+use chip_base::{BootView, Event, EventKind, HartView, PhaseWord};
+use chip_net::Chip;
 use text_line::Line;
-
-/// The rows of sixteen bytes of each memory.
-const ROWS: u32 = 4096;
 
 #[tactic(auto, unfolding(crate::specs::Report::cycles_text))]
 fn cycles_line(cycles: u32) -> Line
@@ -29,12 +26,82 @@ fn cycles_line(cycles: u32) -> Line
     line
 }
 
+/// The name of a unit by its number, which is 0 of the hub.
+fn unit_name(unit: u8) -> &'static str
+    ensures name { result.now ≡ unit_name unit }
+    ensures short { length result.now ≤ 5 }
+{
+    match unit {
+        1 => "uart0",
+        2 => "uart1",
+        3 => "spi",
+        4 => "gpio",
+        5 => "pwm",
+        6 => "slink",
+        7 => "wdt",
+        _ => "hub",
+    }
+}
+
+fn kind_name(kind: EventKind) -> &'static str
+    ensures name { result.now ≡ kind_name kind }
+    ensures short { length result.now ≤ 4 }
+{
+    match kind {
+        EventKind::Tx => "tx",
+        EventKind::Out => "out",
+        EventKind::Word => "word",
+        EventKind::Last => "last",
+        EventKind::Fire => "fire",
+    }
+}
+
+/// Appends the value of an event: of a UART a byte, of all else a word.
+fn push_value(line: &mut Line, unit: u8, value: u32)
+    requires { length line.old + 8 ≤ 128 }
+    ensures text { line.new ≡ line.old ++ value_text unit value }
+    ensures len { length line.new ≤ length line.old + 8 }
+{
+    if unit == 1 || unit == 2 {
+        line.push_byte((value % 256) as u8);
+    } else {
+        line.push_word(value);
+    }
+}
+
+#[tactic(auto, unfolding(crate::specs::Report::event_text))]
+fn event_line(event: &Event) -> Line
+    ensures { result ≡ event_text event.now }
+{
+    let unit = unit_name(event.unit);
+    let kind = kind_name(event.kind);
+    let mut line = Line::new();
+    line.push_number(event.cycle);
+    line.push(b" ");
+    line.push(unit.as_bytes());
+    line.push(b" ");
+    line.push(kind.as_bytes());
+    line.push(b" ");
+    push_value(&mut line, event.unit, event.value);
+    line.push(b"\n");
+    line
+}
+
 #[tactic(auto, unfolding(crate::specs::Report::boot_text))]
-fn boot_line() -> Line
-    ensures { result ≡ boot_text Raw }
+fn boot_line(boot: BootView) -> Line
+    ensures { result ≡ boot_text boot }
 {
     let mut line = Line::new();
-    line.push(b"boot raw\n");
+    match boot {
+        BootView::Raw => line.push(b"boot raw"),
+        BootView::Direct => line.push(b"boot direct"),
+        BootView::Monitor => line.push(b"boot monitor"),
+        BootView::Handed { cycle } => {
+            line.push(b"boot handover ");
+            line.push_number(cycle);
+        }
+    }
+    line.push(b"\n");
     line
 }
 
@@ -171,54 +238,64 @@ fn put_row<O: Sink>(address: u32, row: &[u8; 16], out: &mut O) -> Result<(), Sin
 }
 
 /// Writes the lines of a memory.
-fn put_memory<O: Sink>(hub: &Hub, bank: Bank, out: &mut O) -> Result<(), SinkFault>
-    requires { IsSized hub.now bank }
+fn put_memory<O: Sink>(chip: &Chip, bank: Bank, out: &mut O) -> Result<(), SinkFault>
     ensures { Writes (O.written out.old) (O.written out.new) (O.faults out.old) (O.faults out.new)
-        (memory_text (base_of bank) (bytes_of hub.now bank)) result }
+        (memory_text (base_of bank) (bytes_of chip.now.hub bank)) result }
 {
-    for number in 0..ROWS {
-        let row = bank.row(hub, number);
+    let rows = bank.rows(chip);
+    for number in 0..rows {
+        let row = bank.row(chip, number);
         put_row(bank.base() + 16 * number, &row, out)?;
     }
     Ok(())
 }
 
-/// Writes the lines before the harts.
-fn put_head<O: Sink>(hub: &Hub, cycles: u32, out: &mut O) -> Result<(), SinkFault>
+/// Writes the lines of events, in their order.
+fn put_events<O: Sink>(events: &[Event], out: &mut O) -> Result<(), SinkFault>
     ensures { Writes (O.written out.old) (O.written out.new) (O.faults out.old) (O.faults out.new)
-        (head_text (shown hub.now cycles)) result }
+        (events_text events.now) result }
 {
-    put_line(&cycles_line(cycles), out)?;
-    put_line(&boot_line(), out)
+    for event in events {
+        put_line(&event_line(event), out)?;
+    }
+    Ok(())
 }
 
-fn put_harts<O: Sink>(hub: &Hub, cycles: u32, out: &mut O) -> Result<(), SinkFault>
+/// Writes the lines before the harts.
+fn put_head<O: Sink>(run: &Run, cycles: u32, out: &mut O) -> Result<(), SinkFault>
     ensures { Writes (O.written out.old) (O.written out.new) (O.faults out.old) (O.faults out.new)
-        (harts_text (shown hub.now cycles)) result }
+        (head_text (shown run.now cycles)) result }
 {
-    put_hart(0, &hub.hart(0), out)?;
-    put_second_hart(&hub.hart(1), out)
+    put_line(&cycles_line(cycles), out)?;
+    put_events(run.events(), out)?;
+    put_line(&boot_line(run.chip().boot()), out)
+}
+
+fn put_harts<O: Sink>(run: &Run, cycles: u32, out: &mut O) -> Result<(), SinkFault>
+    ensures { Writes (O.written out.old) (O.written out.new) (O.faults out.old) (O.faults out.new)
+        (harts_text (shown run.now cycles)) result }
+{
+    let chip = run.chip();
+    put_hart(0, &chip.hart(0), out)?;
+    put_second_hart(&chip.hart(1), out)
 }
 
 /// Writes the lines of the memories, and the last line.
-fn put_tail<O: Sink>(hub: &Hub, cycles: u32, out: &mut O) -> Result<(), SinkFault>
-    requires imem { length hub.now.memory.imem ≡ 65536 }
-    requires dmem { length hub.now.memory.dmem ≡ 65536 }
+fn put_tail<O: Sink>(run: &Run, cycles: u32, out: &mut O) -> Result<(), SinkFault>
     ensures { Writes (O.written out.old) (O.written out.new) (O.faults out.old) (O.faults out.new)
-        (tail_text (shown hub.now cycles)) result }
+        (tail_text (shown run.now cycles)) result }
 {
-    put_memory(hub, Bank::Imem, out)?;
-    put_memory(hub, Bank::Dmem, out)?;
+    let chip = run.chip();
+    put_memory(chip, Bank::Imem, out)?;
+    put_memory(chip, Bank::Dmem, out)?;
     put_line(&end_line(), out)
 }
 
-/// Writes the report of a hub after this many cycles.
-pub fn put_report<O: Sink>(hub: &Hub, cycles: u32, out: &mut O) -> Result<(), SinkFault>
-    requires imem { length hub.now.memory.imem ≡ 65536 }
-    requires dmem { length hub.now.memory.dmem ≡ 65536 }
-    ensures { Writes (O.written out.old) (O.written out.new) (O.faults out.old) (O.faults out.new) (report (shown hub.now cycles)) result }
+/// Writes the report of a run of this many cycles.
+pub fn put_report<O: Sink>(run: &Run, cycles: u32, out: &mut O) -> Result<(), SinkFault>
+    ensures { Writes (O.written out.old) (O.written out.new) (O.faults out.old) (O.faults out.new) (report (shown run.now cycles)) result }
 {
-    put_head(hub, cycles, out)?;
-    put_harts(hub, cycles, out)?;
-    put_tail(hub, cycles, out)
+    put_head(run, cycles, out)?;
+    put_harts(run, cycles, out)?;
+    put_tail(run, cycles, out)
 }

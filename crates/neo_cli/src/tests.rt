@@ -6,12 +6,7 @@ use std::alloc::{AllocError, Global};
 use std::thread::Threads;
 
 /// addi x1, x0, 5; lui x2, 0x80000; sw x1, 0(x2); jal x0, 0
-const STORE_FIVE: [u8; 16] = [
-    0x93, 0x00, 0x50, 0x00, 0x37, 0x01, 0x00, 0x80, 0x23, 0x20, 0x11, 0x00, 0x6f, 0x00, 0x00, 0x00,
-];
-
-/// ebreak
-const EBREAK: [u8; 4] = [0x73, 0x00, 0x10, 0x00];
+const STORE_FIVE: [u32; 4] = [0x0050_0093, 0x8000_0137, 0x0011_2023, 0x0000_006f];
 
 const STORE_FIVE_RUN: &str = "cycles 100
 boot raw
@@ -30,6 +25,9 @@ mem 00000000 9300500037010080232011006f000000
 end
 ";
 
+/// ebreak
+const EBREAK: [u32; 1] = [0x0010_0073];
+
 const EBREAK_START: &str = "cycles 0
 boot raw
 hart 0 ready pc 00000000 retired 0
@@ -37,9 +35,191 @@ mem 00000000 73001000000000000000000000000000
 end
 ";
 
+const EBREAK_TRAPS: &str = "cycles 1
+boot raw
+hart 0 run pc 00000000 retired 0
+mem 00000000 73001000000000000000000000000000
+end
+";
+
 const EMPTY_START: &str = "cycles 0
 boot raw
 hart 0 ready pc 00000000 retired 0
+end
+";
+
+const EMPTY_TRAPS: &str = "cycles 12
+boot raw
+hart 0 ready pc 00000000 retired 0
+end
+";
+
+/// UART0 is enabled and sends an A: lui x1, 0xfff50; addi x2, x0, 1; sw x2, 0(x1); addi x2, x0, 0x41; sw x2, 4(x1); jal x0, 0
+const SEND_A: [u32; 6] = [
+    0xfff5_00b7,
+    0x0010_0113,
+    0x0020_a023,
+    0x0410_0113,
+    0x0020_a223,
+    0x0000_006f,
+];
+
+const SEND_A_SENT: &str = "cycles 63
+62 uart0 tx 41
+boot raw
+hart 0 run pc 00000014 retired 13
+x1 fff50000
+x2 00000041
+mem 00000000 b700f5ff1301100023a0200013011004
+mem 00000010 23a220006f0000000000000000000000
+end
+";
+
+const SEND_A_SENDING: &str = "cycles 62
+boot raw
+hart 0 run pc 00000014 retired 13
+x1 fff50000
+x2 00000041
+mem 00000000 b700f5ff1301100023a0200013011004
+mem 00000010 23a220006f0000000000000000000000
+end
+";
+
+/// The jump takes six cycles, and is begun in cycles 16, 22 and so on up to 4,996.
+const SEND_A_LONG: &str = "cycles 5000
+62 uart0 tx 41
+boot raw
+hart 0 run pc 00000014 retired 836
+x1 fff50000
+x2 00000041
+mem 00000000 b700f5ff1301100023a0200013011004
+mem 00000010 23a220006f0000000000000000000000
+end
+";
+
+/// c.nop; c.li x10, -1; c.nop; addi x12, x10, 6, which crosses a word border; c.j 0
+const PARCELS: [u32; 3] = [0x557d_0001, 0x0613_0001, 0xa001_0065];
+
+const PARCELS_RUN: &str = "cycles 20
+boot raw
+hart 0 ready pc 0000000a retired 6
+x10 ffffffff
+x12 00000005
+mem 00000000 01007d5501001306650001a000000000
+end
+";
+
+/// mtvec becomes 0x11, vectored: csrrwi x0, mtvec, 17. The zero parcel after it traps to the base, where jal x0, 0 stands.
+const VECTORED: [u32; 5] = [0x3058_d073, 0, 0, 0, 0x0000_006f];
+
+const VECTORED_RUN: &str = "cycles 20
+boot raw
+hart 0 run pc 00000010 retired 3
+mem 00000000 73d05830000000000000000000000000
+mem 00000010 6f000000000000000000000000000000
+end
+";
+
+/// Core 0 puts 0x40 into the mailbox, raises core 1's software interrupt and sleeps. Core 1 begins at 0x40, sets mtvec to 0x1c
+/// and stores to an address where nothing is, which traps to the jump there.
+const START_SECOND: [u32; 19] = [
+    0xfffe_00b7,
+    0x0400_0113,
+    0x1020_a023,
+    0xfff4_01b7,
+    0x0010_0213,
+    0x0041_a223,
+    0x1050_0073,
+    0x0000_006f,
+    0,
+    0,
+    0,
+    0,
+    0,
+    0,
+    0,
+    0,
+    0x305e_5073,
+    0x4000_02b7,
+    0x0052_a023,
+];
+
+const START_SECOND_RUN: &str = "cycles 30
+boot raw
+hart 0 sleep pc 0000001c retired 7
+x1 fffe0000
+x2 00000040
+x3 fff40000
+x4 00000001
+hart 1 run pc 0000001c retired 3
+x5 40000000
+mem 00000000 b700feff1301000423a02010b701f4ff
+mem 00000010 1302100023a24100730050106f000000
+mem 00000040 73505e30b702004023a0520000000000
+end
+";
+
+/// mtimecmp becomes 32, the timer interrupt is enabled in mie alone, and the core sleeps till it comes, without a trap.
+const SLEEP_TO_32: [u32; 8] = [
+    0xfff4_40b7,
+    0x0200_0113,
+    0x0020_a023,
+    0x0000_a223,
+    0x0800_0193,
+    0x3041_9073,
+    0x1050_0073,
+    0x0000_006f,
+];
+
+const SLEEP_TO_32_ASLEEP: &str = "cycles 31
+boot raw
+hart 0 sleep pc 0000001c retired 7
+x1 fff44000
+x2 00000020
+x3 00000080
+mem 00000000 b740f4ff1301000223a0200023a20000
+mem 00000010 9301000873904130730050106f000000
+end
+";
+
+const SLEEP_TO_32_AWAKE: &str = "cycles 40
+boot raw
+hart 0 run pc 0000001c retired 9
+x1 fff44000
+x2 00000020
+x3 00000080
+mem 00000000 b740f4ff1301000223a0200023a20000
+mem 00000010 9301000873904130730050106f000000
+end
+";
+
+/// Pin 0 goes up: lui x1, 0xfffc0; addi x2, x0, 1; csrr x0, mscratch; sw x2, 4(x1); jal x0, 0
+const LIGHT: [u32; 5] = [
+    0xfffc_00b7,
+    0x0010_0113,
+    0x3400_2073,
+    0x0020_a223,
+    0x0000_006f,
+];
+
+const LIGHT_ON: &str = "cycles 16
+15 gpio out 00000001
+boot raw
+hart 0 run pc 00000010 retired 5
+x1 fffc0000
+x2 00000001
+mem 00000000 b700fcff130110007320003423a22000
+mem 00000010 6f000000000000000000000000000000
+end
+";
+
+const LIGHT_OFF: &str = "cycles 15
+boot raw
+hart 0 run pc 00000010 retired 5
+x1 fffc0000
+x2 00000001
+mem 00000000 b700fcff130110007320003423a22000
+mem 00000010 6f000000000000000000000000000000
 end
 ";
 
@@ -59,6 +239,15 @@ fn words_of(alloc: Global, text: &str) -> Result<Vec<String>, AllocError> {
         words.push(String::from_str(alloc, word)?)?;
     }
     Ok(words)
+}
+
+/// The bytes of words, low byte first.
+fn bytes_of(alloc: Global, words: &[u32]) -> Result<Vec<u8>, AllocError> {
+    let mut bytes = Vec::new(alloc);
+    for word in words {
+        bytes.extend_from_slice(&word.to_le_bytes())?;
+    }
+    Ok(bytes)
 }
 
 fn zero_bytes(alloc: Global, count: usize) -> Result<Vec<u8>, AllocError> {
@@ -90,7 +279,7 @@ fn answers<R: Threads + Sync>(
 
 #[test]
 fn reports_runs(rt: HostRuntime) -> Result<(), AllocError> {
-    for (words, file, status, text) in [
+    for (words, program, status, text) in [
         (
             "run prog.bin 100 --boot raw",
             STORE_FIVE.as_slice(),
@@ -104,22 +293,44 @@ fn reports_runs(rt: HostRuntime) -> Result<(), AllocError> {
             STORE_FIVE_START,
         ),
         ("run prog.bin 0 --boot raw", &EBREAK, 0, EBREAK_START),
-        (
-            "run prog.bin 1 --boot raw",
-            &EBREAK,
-            11,
-            "error not built\n",
-        ),
+        ("run prog.bin 1 --boot raw", &EBREAK, 0, EBREAK_TRAPS),
         (
             "run other.bin 0 --boot raw",
             &EBREAK,
             3,
             "error read other.bin\n",
         ),
+        ("run prog.bin 12 --boot raw", &[], 0, EMPTY_TRAPS),
+        ("run prog.bin 63 --boot raw", &SEND_A, 0, SEND_A_SENT),
+        ("run prog.bin 62 --boot raw", &SEND_A, 0, SEND_A_SENDING),
+        ("run prog.bin 5000 --boot raw", &SEND_A, 0, SEND_A_LONG),
+        ("run prog.bin 20 --boot raw", &PARCELS, 0, PARCELS_RUN),
+        ("run prog.bin 20 --boot raw", &VECTORED, 0, VECTORED_RUN),
+        (
+            "run prog.bin 30 --boot raw",
+            &START_SECOND,
+            0,
+            START_SECOND_RUN,
+        ),
+        ("run prog.bin 16 --boot raw", &LIGHT, 0, LIGHT_ON),
+        ("run prog.bin 15 --boot raw", &LIGHT, 0, LIGHT_OFF),
+        (
+            "run prog.bin 31 --boot raw",
+            &SLEEP_TO_32,
+            0,
+            SLEEP_TO_32_ASLEEP,
+        ),
+        (
+            "run prog.bin 40 --boot raw",
+            &SLEEP_TO_32,
+            0,
+            SLEEP_TO_32_AWAKE,
+        ),
     ] {
+        let bytes = bytes_of(rt.alloc(), program)?;
         let case = Case {
             words,
-            file,
+            file: &bytes,
             failing_reads: &[],
             failing_puts: &[],
         };
@@ -133,8 +344,8 @@ fn limits_files(rt: HostRuntime) -> Result<(), AllocError> {
     for (count, status, text) in [
         (0, 0, EMPTY_START),
         (65_536, 0, EMPTY_START),
-        (65_537, 11, "error not built\n"),
-        (2_097_152, 11, "error not built\n"),
+        (65_537, 4, "error image size 65537\n"),
+        (2_097_152, 4, "error image size 2097152\n"),
         (2_097_153, 3, "error long prog.bin\n"),
     ] {
         let zeros = zero_bytes(rt.alloc(), count)?;
@@ -152,18 +363,36 @@ fn limits_files(rt: HostRuntime) -> Result<(), AllocError> {
 #[test]
 fn tells_faults(rt: HostRuntime) -> Result<(), AllocError> {
     for (failing_reads, failing_puts, status, text) in [
-        ([0], [3], 7, "cycles 100\nboot raw\n"),
+        ([0], [2], 7, "cycles 100\n"),
+        ([0], [3], 7, "cycles 100\n62 uart0 tx 41\n"),
         ([1], [0], 3, "error read prog.bin\n"),
         ([1], [1], 3, ""),
     ] {
+        let bytes = bytes_of(rt.alloc(), &SEND_A)?;
         let case = Case {
             words: "run prog.bin 100 --boot raw",
-            file: &STORE_FIVE,
+            file: &bytes,
             failing_reads: &failing_reads,
             failing_puts: &failing_puts,
         };
         assert!(&rt; answers(&rt, rt.alloc(), &case, status, text)?, "{status}");
     }
+    let bytes = bytes_of(rt.alloc(), &STORE_FIVE)?;
+    let case = Case {
+        words: "run prog.bin 100 --boot raw",
+        file: &bytes,
+        failing_reads: &[],
+        failing_puts: &[3],
+    };
+    assert!(&rt; answers(&rt, rt.alloc(), &case, 7, "cycles 100\nboot raw\n")?);
+    let zeros = zero_bytes(rt.alloc(), 65_537)?;
+    let case = Case {
+        words: "run prog.bin 100 --boot raw",
+        file: &zeros,
+        failing_reads: &[],
+        failing_puts: &[1],
+    };
+    assert!(&rt; answers(&rt, rt.alloc(), &case, 4, "")?);
     Ok(())
 }
 
@@ -185,7 +414,7 @@ fn refuses_words(rt: HostRuntime) -> Result<(), AllocError> {
     ] {
         let case = Case {
             words,
-            file: &STORE_FIVE,
+            file: &[],
             failing_reads: &[],
             failing_puts: &[],
         };

@@ -1,3 +1,8 @@
 pub mod Masks
+pub mod ParcelParts
 pub mod Table
 pub mod Unique
+pub mod UniqueParcel
+pub mod Vectors
+pub mod Round
+pub mod RoundParcels

@@ -72,7 +72,7 @@ rows_well_formed : list_all (λ (r : Row). well_formed r.fields) rows ≡ true
 rows_well_formed = refl
 
 -- the row of a word is the one that its fields choose
-row_by_fields : (w : ℕ) → row_of w ≡ find (matches_fields (w / 1 % 0x80) (w / 0x1000 % 8)) rows
+row_by_fields : (w : ℕ) → row_of w ≡ find (matches_fields (w / 1 % 0x80) (w / 0x1000 % 8) (w / 0x2000000 % 0x80) w) rows
 row_by_fields w =
     find_same (matches w) (λ (r : Row). list_all (has_field w) r.fields) (λ (r : Row). well_formed r.fields) (λ r ok. field_tests w r.fields ok) rows rows_well_formed
 
@@ -80,11 +80,14 @@ map_twice : {A B C : Type 0} (f : A → B) (g : B → C) (o : Option A) → opti
 map_twice f g None = refl
 map_twice f g (Some x) = refl
 
--- a word decodes by its opcode and funct3
-pub decoded_by_fields : (w : ℕ) → decoded w ≡ option_map (λ k. operands k.format k.op w) (kind_at (w % 0x80) (w / 0x1000 % 8))
+-- a word decodes by its opcode, funct3 and funct7
+pub decoded_by_fields : (w : ℕ) → w < 2 ^ 32
+    → decoded w ≡ option_map (λ k. operands k.format k.op w) (kind_at (w % 0x80) (w / 0x1000 % 8) (w / 0x2000000) w)
 unfolding decoded
-decoded_by_fields w =
+decoded_by_fields w fits =
     let low : w / 1 % 0x80 ≡ w % 0x80 = omega arith in
+    let top : w / 0x2000000 % 0x80 ≡ w / 0x2000000 = omega arith in
     ap (option_map (instr_of w)) (row_by_fields w)
-    ∙ sym (map_twice kind_of_row (λ k. operands k.format k.op w) (find (matches_fields (w / 1 % 0x80) (w / 0x1000 % 8)) rows))
-    ∙ ap (λ (o : ℕ). option_map (λ k. operands k.format k.op w) (kind_at o (w / 0x1000 % 8))) low
+    ∙ sym (map_twice kind_of_row (λ k. operands k.format k.op w) (find (matches_fields (w / 1 % 0x80) (w / 0x1000 % 8) (w / 0x2000000 % 0x80) w) rows))
+    ∙ ap (λ (o : ℕ). option_map (λ k. operands k.format k.op w) (kind_at o (w / 0x1000 % 8) (w / 0x2000000 % 0x80) w)) low
+    ∙ ap (λ (t : ℕ). option_map (λ k. operands k.format k.op w) (kind_at (w % 0x80) (w / 0x1000 % 8) t w)) top

@@ -16,6 +16,13 @@ abbrev pub joined : List (ℕ × ℕ) → ℕ → ℕ
 joined [] word = 0
 joined (f ∷ fs) word = field f.0 f.1 word * 2 ^ bits_of fs + joined fs word
 
+-- the bits of n from `high` downwards, placed at the fields of the list in its order
+abbrev pub placed : ℕ → List (ℕ × ℕ) → ℕ → ℕ
+placed high [] n = 0
+placed high (f ∷ fs) n =
+    let width = f.0 + 1 - f.1 in
+    field_of n (high + 1 - width) width * 2 ^ f.1 + placed (high - width) fs n
+
 -- where the bits of an immediate lie in a word of the I format
 abbrev pub i_bits : List (ℕ × ℕ)
 i_bits = (31, 20) ∷ []
@@ -23,6 +30,10 @@ i_bits = (31, 20) ∷ []
 -- the same in the S format
 abbrev pub s_bits : List (ℕ × ℕ)
 s_bits = (31, 25) ∷ (11, 7) ∷ []
+
+-- the same in the B format, without the low zero
+abbrev pub b_bits : List (ℕ × ℕ)
+b_bits = (31, 31) ∷ (7, 7) ∷ (30, 25) ∷ (11, 8) ∷ []
 
 -- the same in the U format, without the low twelve zeros
 abbrev pub u_bits : List (ℕ × ℕ)

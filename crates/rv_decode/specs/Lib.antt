@@ -1,2 +1,5 @@
+pub mod Classes
 pub mod Fields
+pub mod Names
+pub mod Parcels
 pub mod Rows

@@ -2,7 +2,7 @@
 
 ghost use Rattle.std.specs.Prelude.{◌≡◌, ◌<◌, ◌≤◌, ◌*◌, ◌^◌};
 ghost use Rattle.soc_words.specs.Word.{sign_extended};
-ghost use Rattle.rv_decode.specs.Fields.{joined, i_bits, s_bits, u_bits, j_bits};
+ghost use Rattle.rv_decode.specs.Fields.{joined, i_bits, s_bits, b_bits, u_bits, j_bits};
 
 /// A number of so many bits, extended to a word by its highest bit.
 pub fn sign_extend(number: u32, bits: u32) -> u32
@@ -29,6 +29,17 @@ pub fn immediate_s(word: u32) -> u32
     ensures { result ≡ sign_extended 12 (joined s_bits word) }
 {
     sign_extend((word >> 25) << 5 | (word >> 7 & 0x1f), 12)
+}
+
+/// The immediate of the B format.
+pub fn immediate_b(word: u32) -> u32
+    ensures { result ≡ sign_extended 13 (2 * joined b_bits word) }
+{
+    let high = (word >> 31) * 0x1000 + (word >> 7 & 1) * 0x800;
+    sign_extend(
+        high + (word >> 25 & 0x3f) * 0x20 + (word >> 8 & 0xf) * 2,
+        13,
+    )
 }
 
 /// The immediate of the U format.

@@ -1,87 +1,114 @@
-//! Words as an assembler writes them.
+//! Words and parcels as an assembler writes them.
 
-use crate::{Instr, Op, decode};
+use crate::{Instr, Op, decode, expand, is_csr, is_load, is_store, length, name};
+
+fn instr(op: Op, registers: (u8, u8, u8), imm: u32, csr: u16) -> Instr {
+    let (rd, rs1, rs2) = registers;
+    Instr {
+        op,
+        rd,
+        rs1,
+        rs2,
+        imm,
+        csr,
+    }
+}
 
 #[test]
-fn decodes_assembled_words(rt: HostRuntime) {
+fn decodes_each_format(rt: HostRuntime) {
     let words = [
-        // lui x2, 0x80000
-        (
-            0x8000_0137,
-            Instr {
-                op: Op::Lui,
-                rd: 2,
-                rs1: 0,
-                rs2: 0,
-                imm: 0x8000_0000,
-                csr: 0,
-            },
-        ),
-        // jal x0, 0
-        (
-            0x0000_006f,
-            Instr {
-                op: Op::Jal,
-                rd: 0,
-                rs1: 0,
-                rs2: 0,
-                imm: 0,
-                csr: 0,
-            },
-        ),
-        // jal x0, -2
-        (
-            0xffff_f06f,
-            Instr {
-                op: Op::Jal,
-                rd: 0,
-                rs1: 0,
-                rs2: 0,
-                imm: 0xffff_fffe,
-                csr: 0,
-            },
-        ),
-        // sw x14, 4(x15)
-        (
-            0x00e7_a223,
-            Instr {
-                op: Op::Sw,
-                rd: 0,
-                rs1: 15,
-                rs2: 14,
-                imm: 4,
-                csr: 0,
-            },
-        ),
-        // addi x1, x0, 5
-        (
-            0x0050_0093,
-            Instr {
-                op: Op::Addi,
-                rd: 1,
-                rs1: 0,
-                rs2: 0,
-                imm: 5,
-                csr: 0,
-            },
-        ),
+        // add x5, x6, x7
+        (0x0073_02b3, instr(Op::Add, (5, 6, 7), 0, 0)),
+        // mul x10, x10, x11
+        (0x02b5_0533, instr(Op::Mul, (10, 10, 11), 0, 0)),
         // addi x2, x2, -48
-        (
-            0xfd01_0113,
-            Instr {
-                op: Op::Addi,
-                rd: 2,
-                rs1: 2,
-                rs2: 0,
-                imm: 0xffff_ffd0,
-                csr: 0,
-            },
-        ),
+        (0xfd01_0113, instr(Op::Addi, (2, 2, 0), 0xffff_ffd0, 0)),
+        // lw x14, 4(x15)
+        (0x0047_a703, instr(Op::Lw, (14, 15, 0), 4, 0)),
+        // srai x15, x15, 4
+        (0x4047_d793, instr(Op::Srai, (15, 15, 0), 4, 0)),
+        // sw x8, -20(x8)
+        (0xfe84_2623, instr(Op::Sw, (0, 8, 8), 0xffff_ffec, 0)),
+        // bne x2, x3, -12
+        (0xfe31_1ae3, instr(Op::Bne, (0, 2, 3), 0xffff_fff4, 0)),
+        // auipc x1, 0x12345
+        (0x1234_5097, instr(Op::Auipc, (1, 0, 0), 0x1234_5000, 0)),
+        // jal x1, 2048
+        (0x0010_00ef, instr(Op::Jal, (1, 0, 0), 0x800, 0)),
+        // jal x0, -2
+        (0xffff_f06f, instr(Op::Jal, (0, 0, 0), 0xffff_fffe, 0)),
+        // csrrs x10, mhartid, x0
+        (0xf140_2573, instr(Op::Csrrs, (10, 0, 0), 0, 0xf14)),
+        // csrrwi x0, mtvec, 17
+        (0x3058_d073, instr(Op::Csrrwi, (0, 0, 0), 17, 0x305)),
+        // fence iorw, iorw
+        (0x0ff0_000f, instr(Op::Fence, (0, 0, 0), 0, 0)),
+        // mret
+        (0x3020_0073, instr(Op::Mret, (0, 0, 0), 0, 0)),
     ];
     for (word, instr) in words {
         assert_eq!(rt; decode(word), Some(instr), "at {word:08x}");
     }
-    for word in [0x0000_0000, 0xffff_ffff, 0x0000_3023] {
+    // no row: zeros, ones, sd x0, 0(x0), slli x10, x10, 32 and uret
+    for word in [
+        0x0000_0000,
+        0xffff_ffff,
+        0x0000_3023,
+        0x0205_1513,
+        0x0020_0073,
+    ] {
         assert_eq!(rt; decode(word), None, "at {word:08x}");
     }
+}
+
+#[test]
+fn expands_parcels(rt: HostRuntime) {
+    let parcels = [
+        (0x0001, 0x0000_0013),
+        (0x0808, 0x0101_0513),
+        (0x43d8, 0x0047_a703),
+        (0xc3d8, 0x00e7_a223),
+        (0x1141, 0xff01_0113),
+        (0x7179, 0xfd01_0113),
+        (0x6785, 0x0000_17b7),
+        (0x8791, 0x4047_d793),
+        (0x8f89, 0x40a7_87b3),
+        (0xbffd, 0xffff_f06f),
+        (0xc399, 0x0007_8363),
+        (0x078a, 0x0027_9793),
+        (0x40b2, 0x00c1_2083),
+        (0xc606, 0x0011_2623),
+        (0x8082, 0x0000_8067),
+        (0x853e, 0x00f0_0533),
+        (0x9002, 0x0010_0073),
+        (0x557d, 0xfff0_0513),
+    ];
+    for (half, word) in parcels {
+        assert_eq!(rt; expand(half), Some(word), "at {half:04x}");
+        assert_eq!(rt; length(half), 2, "at {half:04x}");
+    }
+    for half in [0x0000, 0x6101, 0x6081, 0x4002, 0x8002, 0x9c01, 0x1002] {
+        assert_eq!(rt; expand(half), None, "at {half:04x}");
+    }
+    assert_eq!(rt; length(0x0093), 4);
+}
+
+#[test]
+fn names_operations(rt: HostRuntime) {
+    let names = [
+        (Op::Lui, "lui"),
+        (Op::Mulhsu, "mulhsu"),
+        (Op::FenceI, "fence.i"),
+        (Op::Csrrci, "csrrci"),
+    ];
+    for (op, text) in names {
+        assert_eq!(rt; name(op).as_slice(), text.as_bytes());
+    }
+}
+
+#[test]
+fn tells_classes(rt: HostRuntime) {
+    assert!(rt; is_load(Op::Lhu) && !is_load(Op::Sh));
+    assert!(rt; is_store(Op::Sb) && !is_store(Op::Lb));
+    assert!(rt; is_csr(Op::Csrrsi) && !is_csr(Op::Ecall));
 }

@@ -1,6 +1,6 @@
 use Rattle.std.proofs.Common.{◌≡◌, map, string_bytes, Some, Global}
 use Rattle.neo_cli.specs.Job.{job_of}
-use Rattle.neo_cli.proofs.Told.{complete_file, answered_file, cut_short_file, want_of_memory_file, refused_file, run_file}
+use Rattle.neo_cli.proofs.Told.{complete_file, answered_file, cut_short_file, want_of_memory_file, refused_file, too_large_file, run_file}
 use Rattle.neo_cli.proofs.bench.bench.Goals as goal
 
 pub returns-clause-complete : goal.returns-clause-complete
@@ -53,6 +53,15 @@ returns-clause-ran g c =
     let job_is : job_of (map (string_bytes {Z = Global}) c.args.words.now.items) ≡ Some (record { image = c.in-Some.job.image.now; cycles = c.in-Some.job.cycles })
     = rw c.deref.ensures.value at c.in-Some.ensures in
     rw job_is (run_file (g.S.Shelf.told c.args.shelf.now) (g.S.Shelf.file c.args.shelf.now c.in-Some.job.image.now) c.in-Some.job.image.now c.in-Some.job.cycles
+    (g.S.Shelf.read_faults c.args.shelf.now) (g.S.Shelf.read_faults c.decide-outcome.new.shelf) c.decide-outcome.result
+    (g.O.Sink.written c.args.out.now) (g.O.Sink.written c.tell.new.out) (g.O.Sink.faults c.args.out.now) (g.O.Sink.faults c.tell.new.out) c.tell.result
+    c.decide-outcome.ensures.decides c.tell.ensures)
+
+pub returns-clause-too_large : goal.returns-clause-too_large
+returns-clause-too_large g c =
+    let job_is : job_of (map (string_bytes {Z = Global}) c.args.words.now.items) ≡ Some (record { image = c.in-Some.job.image.now; cycles = c.in-Some.job.cycles })
+    = rw c.deref.ensures.value at c.in-Some.ensures in
+    rw job_is (too_large_file (g.S.Shelf.told c.args.shelf.now) (g.S.Shelf.file c.args.shelf.now c.in-Some.job.image.now) c.in-Some.job.image.now c.in-Some.job.cycles
     (g.S.Shelf.read_faults c.args.shelf.now) (g.S.Shelf.read_faults c.decide-outcome.new.shelf) c.decide-outcome.result
     (g.O.Sink.written c.args.out.now) (g.O.Sink.written c.tell.new.out) (g.O.Sink.faults c.args.out.now) (g.O.Sink.faults c.tell.new.out) c.tell.result
     c.decide-outcome.ensures.decides c.tell.ensures)

@@ -13,12 +13,10 @@ loop-number-preserved g c = rw joined_below-more (writes_then _ c.loop-number.in
 
 pub returns-in_err-put_row : goal.returns-in_err-put_row
 returns-in_err-put_row g c =
-    let rows : length (bytes_of c.args.hub.now c.args.bank) / 16 ≡ 4096 = ap (λ n. n / 16) c.requires in
-    rw rows (loop_exit (row_text_in (base_of c.args.bank) (bytes_of c.args.hub.now c.args.bank)) c.loop-number.number 4096 c.from_residual.result (omega arith)
+    rw (← c.rows-rows.ensures.value) (loop_exit (row_text_in (base_of c.args.bank) (bytes_of c.args.chip.now.hub c.args.bank)) c.loop-number.number c.rows-rows.result c.from_residual.result (omega arith)
     c.loop-number.invariant (rw (c.row-row.ensures, c.base.ensures) at c.in_err-put_row.ensures) c.from_residual.ensures.1)
 
 pub returns : goal.returns
 returns g c =
-    let rows : length (bytes_of c.args.hub.now c.args.bank) / 16 ≡ 4096 = ap (λ n. n / 16) c.requires in
-    let all : c.loop-number.number ≡ 4096 = omega (arith, c.loop-number-test.false, c.loop-number.auto.number-end) in
-    rw (rows, ← all) c.loop-number.invariant
+    let all : c.loop-number.number ≡ c.rows-rows.result = omega (arith, c.loop-number-test.false, c.loop-number.auto.number-end) in
+    rw (← c.rows-rows.ensures.value, ← all) c.loop-number.invariant

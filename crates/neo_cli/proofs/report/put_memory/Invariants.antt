@@ -8,4 +8,4 @@ use Rattle.neo_cli.proofs.report.put_memory.Given as goal
 abbrev pub invariant-loop-number : goal.invariant-loop-number
 invariant-loop-number g l =
     Writes (g.O.Sink.written l.initial.out) (g.O.Sink.written l.out) (g.O.Sink.faults l.initial.out) (g.O.Sink.faults l.out)
-    (joined_below (row_text_in (base_of l.bank) (bytes_of l.hub l.bank)) l.number) (Ok (tt {0}))
+    (joined_below (row_text_in (base_of l.bank) (bytes_of l.chip.hub l.bank)) l.number) (Ok (tt {0}))

@@ -5,12 +5,14 @@ use Rattle.neo_cli.proofs.report.put_tail.Goals as goal
 pub returns-in_err-put_memory : goal.returns-in_err-put_memory
 returns-in_err-put_memory g c =
     writes_exit end_text _ c.from_residual.ensures.1
-    (writes_stop (memory_text 2147483648 c.args.hub.now.memory.dmem) c.in_err-put_memory.ensures)
+    (writes_stop (memory_text 2147483648 c.args.run.now.hub.memory.dmem) (rw c.chip-chip.ensures at c.in_err-put_memory.ensures))
 
 pub returns-in_err-put_memory-2 : goal.returns-in_err-put_memory-2
 returns-in_err-put_memory-2 g c =
     writes_exit end_text _ c.from_residual-in_err-put_memory-2.ensures.1
-    (writes_then _ c.in_ok-put_memory.ensures c.in_err-put_memory-2.ensures)
+    (writes_then _ (rw c.chip-chip.ensures at c.in_ok-put_memory.ensures) (rw c.chip-chip.ensures at c.in_err-put_memory-2.ensures))
 
 pub returns : goal.returns
-returns g c = writes_then _ (writes_then _ c.in_ok-put_memory.ensures c.in_ok-put_memory-2.ensures) (rw c.end_line.ensures at c.put_line.ensures)
+returns g c =
+    writes_then _ (writes_then _ (rw c.chip-chip.ensures at c.in_ok-put_memory.ensures) (rw c.chip-chip.ensures at c.in_ok-put_memory-2.ensures))
+    (rw c.end_line.ensures at c.put_line.ensures)

@@ -6,4 +6,4 @@ use Rattle.neo_cli.proofs.bank.Bank.row.Goals as goal
 pub returns : goal.returns
 returns c =
     c.joined.ensures
-    ∙ rw (c.word-first.ensures, c.word-second.ensures, c.word-third.ensures, c.word.ensures) (row_of_words (bytes_of c.args.hub.now c.args.self) (16 * c.args.number))
+    ∙ rw (c.word-first.ensures, c.word-second.ensures, c.word-third.ensures, c.word.ensures) (row_of_words (bytes_of c.args.chip.now.hub c.args.self) (16 * c.args.number))

@@ -1,0 +1,309 @@
+-- What one cycle of the hub does to the fronts of its units.
+use Rattle.std.proofs.Common.{◌≡◌, ◌≤◌, ◌+◌, ◌-◌, ℕ, Bool, true, false, eqb, List, Option, None, Some, Result, Ok, Err, refl, arith}
+use Rattle.std.specs.Prelude.{get_or, ◌&&◌, not}
+use Rattle.std.proofs.lemmas.Bool.Decides.{nat_tests}
+use Rattle.chip_base.specs.declared.message.Down.{Down}
+use Rattle.chip_base.specs.declared.message.Up.{Up}
+use Rattle.chip_base.specs.Messages.{data_in, done_in, reset_in}
+use Rattle.soc_bus.specs.Map.{admitted}
+use Rattle.soc_bus.specs.Memory.{Memories, store_of}
+use Rattle.soc_bus.specs.Rotation.{granted}
+use Rattle.soc_bus.specs.declared.access.BusFault.{BusFault}
+use Rattle.soc_bus.specs.declared.access.Region.{Region}
+use Rattle.soc_bus.specs.declared.access.Region.TheVariants.{Imem, Dmem, Clint, Mailbox, Sysinfo, Dma, Device}
+use Rattle.soc_bus.specs.declared.access.Request.{Request}
+use Rattle.soc_bus.specs.declared.arbiter.Master.{Master}
+use Rattle.soc_bus.specs.declared.arbiter.Master.TheVariants.{Core0, Core1, Dma as Copier}
+use Rattle.core_pair.specs.Core.{wanted_in}
+use Rattle.dma_unit.specs.Copier.{wanted as dma_wanted}
+use Rattle.unit_fronts.specs.Counts.{SpendsCredits}
+use Rattle.unit_fronts.specs.Port.{Port, is_open_of}
+use Rattle.unit_fronts.specs.GpioFront.{PinRegisters, answered as pins_answered, arrived as pins_arrived, arrived_open as pins_arrived_open, store_sent as pins_sent, stored as pins_stored, written as pins_written}
+use Rattle.unit_fronts.specs.PwmFront.{DutyRegisters, arrived as duty_arrived, store_sent as duty_sent, stored as duty_stored}
+use Rattle.unit_fronts.specs.UartFront.{loaded, stored, store_sent}
+use Rattle.unit_fronts.proofs.Counts.{loads, spends}
+use Rattle.chip_hub.specs.Access.{accessed, accessed_by, in_clint, in_device, in_dma, in_gpio, in_mailbox, in_memory, in_pwm, in_region, in_sysinfo, in_uart0, memory_stored, silent}
+use Rattle.chip_hub.specs.Cycle.{heard, heard_by_gpio, heard_by_pwm, hub_cycle, served, served0, served1, served2, served_to, timed, turn0, turn1, wants_of}
+use Rattle.chip_hub.specs.State.{Fronts, State}
+
+-- a relation between the fronts before an access, the fronts after it and the messages that go down holds of every access
+pub record HoldsOfAccesses (Q : Fronts → Fronts → List (Option Down) → Type 0) : Type 0 where
+  -- where no front is reached
+  pub quiet : (f : Fronts) → Q f f silent
+  -- at the registers of a unit
+  pub device : (s : State) (r : Request) (unit reg : ℕ) → Q s.fronts (in_device s r unit reg).hub.fronts (in_device s r unit reg).downs
+
+memory_store : (Q : Fronts → Fronts → List (Option Down) → Type 0) → HoldsOfAccesses Q → (s : State) (m : Result Memories BusFault)
+    → Q s.fronts (memory_stored s m).hub.fronts (memory_stored s m).downs
+memory_store Q h s (Ok m) = h.quiet s.fronts
+memory_store Q h s (Err fault) = h.quiet s.fronts
+
+memory_access : (Q : Fronts → Fronts → List (Option Down) → Type 0) → HoldsOfAccesses Q → (s : State) (r : Request) (store : Option ℕ)
+    → Q s.fronts (in_memory s r store).hub.fronts (in_memory s r store).downs
+memory_access Q h s r None = h.quiet s.fronts
+memory_access Q h s r (Some value) = memory_store Q h s (store_of s.memory r.addr r.width value)
+
+clint_access : (Q : Fronts → Fronts → List (Option Down) → Type 0) → HoldsOfAccesses Q → (s : State) (r : Request) (store : Option ℕ)
+    → Q s.fronts (in_clint s r store).hub.fronts (in_clint s r store).downs
+clint_access Q h s r None = h.quiet s.fronts
+clint_access Q h s r (Some value) = h.quiet s.fronts
+
+mailbox_access : (Q : Fronts → Fronts → List (Option Down) → Type 0) → HoldsOfAccesses Q → (s : State) (r : Request) (store : Option ℕ)
+    → Q s.fronts (in_mailbox s r store).hub.fronts (in_mailbox s r store).downs
+mailbox_access Q h s r None = h.quiet s.fronts
+mailbox_access Q h s r (Some value) = h.quiet s.fronts
+
+sysinfo_access : (Q : Fronts → Fronts → List (Option Down) → Type 0) → HoldsOfAccesses Q → (s : State) (r : Request) (store : Option ℕ)
+    → Q s.fronts (in_sysinfo s r store).hub.fronts (in_sysinfo s r store).downs
+sysinfo_access Q h s r None = h.quiet s.fronts
+sysinfo_access Q h s r (Some value) = h.quiet s.fronts
+
+dma_access : (Q : Fronts → Fronts → List (Option Down) → Type 0) → HoldsOfAccesses Q → (s : State) (r : Request) (store : Option ℕ)
+    → Q s.fronts (in_dma s r store).hub.fronts (in_dma s r store).downs
+dma_access Q h s r None = h.quiet s.fronts
+dma_access Q h s r (Some value) = h.quiet s.fronts
+
+region_access : (Q : Fronts → Fronts → List (Option Down) → Type 0) → HoldsOfAccesses Q → (s : State) (r : Request) (region : Region)
+    → Q s.fronts (in_region s r region).hub.fronts (in_region s r region).downs
+region_access Q h s r Imem = memory_access Q h s r r.store
+region_access Q h s r Dmem = memory_access Q h s r r.store
+region_access Q h s r Clint = clint_access Q h s r r.store
+region_access Q h s r Mailbox = mailbox_access Q h s r r.store
+region_access Q h s r Sysinfo = sysinfo_access Q h s r r.store
+region_access Q h s r Dma = dma_access Q h s r r.store
+region_access Q h s r (Device unit reg) = h.device s r unit reg
+
+found_access : (Q : Fronts → Fronts → List (Option Down) → Type 0) → HoldsOfAccesses Q → (s : State) (r : Request) (found : Result Region BusFault)
+    → Q s.fronts (accessed_by s r found).hub.fronts (accessed_by s r found).downs
+found_access Q h s r (Ok region) = region_access Q h s r region
+found_access Q h s r (Err fault) = h.quiet s.fronts
+
+every_access : (Q : Fronts → Fronts → List (Option Down) → Type 0) → HoldsOfAccesses Q → (s : State) (r : Request)
+    → Q s.fronts (accessed s r).hub.fronts (accessed s r).downs
+unfolding accessed
+every_access Q h s r = found_access Q h s r (admitted r _ _)
+
+core0_access : (Q : Fronts → Fronts → List (Option Down) → Type 0) → HoldsOfAccesses Q → (s : State) (wanted : Option Request)
+    → Q s.fronts (served0 s wanted).hub.fronts (served0 s wanted).downs
+core0_access Q h s None = h.quiet s.fronts
+core0_access Q h s (Some request) = every_access Q h s request
+
+core1_access : (Q : Fronts → Fronts → List (Option Down) → Type 0) → HoldsOfAccesses Q → (s : State) (wanted : Option Request)
+    → Q s.fronts (served1 s wanted).hub.fronts (served1 s wanted).downs
+core1_access Q h s None = h.quiet s.fronts
+core1_access Q h s (Some request) = every_access Q h s request
+
+dma_served : (Q : Fronts → Fronts → List (Option Down) → Type 0) → HoldsOfAccesses Q → (s : State) (wanted : Option Request)
+    → Q s.fronts (served2 s wanted).hub.fronts (served2 s wanted).downs
+dma_served Q h s None = h.quiet s.fronts
+dma_served Q h s (Some request) = every_access Q h s request
+
+grant : (Q : Fronts → Fronts → List (Option Down) → Type 0) → HoldsOfAccesses Q → (s : State) (master : Option Master)
+    → Q s.fronts (served_to s master).hub.fronts (served_to s master).downs
+grant Q h s None = h.quiet s.fronts
+grant Q h s (Some Core0) = core0_access Q h s (wanted_in s.core0.phase)
+grant Q h s (Some Core1) = core1_access Q h s (wanted_in s.core1.phase)
+grant Q h s (Some Copier) = dma_served Q h s (dma_wanted s.dma)
+
+served_fronts : (Q : Fronts → Fronts → List (Option Down) → Type 0) → HoldsOfAccesses Q → (s : State)
+    → Q s.fronts (served s).hub.fronts (served s).downs
+served_fronts Q h s = grant Q h _ (granted s.arbiter (wants_of s))
+
+-- after the arrivals, a cycle makes one access at most
+pub cycle_fronts : (Q : Fronts → Fronts → List (Option Down) → Type 0) → HoldsOfAccesses Q → (s : State) (now : ℕ) (ups : List (Option Up))
+    → Q (heard s ups).fronts (hub_cycle s now ups).hub.fronts (hub_cycle s now ups).downs
+unfolding hub_cycle
+cycle_fronts Q h s now ups = served_fronts Q h (turn1 (turn0 (timed (heard s ups)) now) now)
+
+-- what an access does to a front, and the message that it sends down
+pub record ServesPort (old : Port) (down : Option Down) (new : Port) : Type 0 where
+  pub credits : SpendsCredits old down new
+  -- a closed front sends no entry
+  pub closed : is_open_of old ≡ false → data_in down ≡ 0
+  pub no_reset : reset_in down ≡ 0
+
+serves_nothing : (p : Port) → ServesPort p None p
+serves_nothing p = record { credits = record { credits = omega arith; owed = refl }; closed = λ c. refl; no_reset = refl }
+
+uart_load : (p : Port) (reg : ℕ) → ServesPort p None (loaded p reg)
+uart_load p reg = record {
+  credits = record { credits = let same : (loaded p reg).credits ≡ p.credits = (loads p reg).0 in omega (arith, same); owed = (loads p reg).1 };
+  closed = λ c. refl;
+  no_reset = refl;
+}
+
+uart_no_reset : (p : Port) (reg word : ℕ) (open_now control empty : Bool) → is_open_of p ≡ open_now → eqb reg 0 ≡ control → eqb p.credits 0 ≡ empty
+    → reset_in (store_sent p reg word) ≡ 0
+uart_no_reset p reg word false b d e f g = rw e refl
+uart_no_reset p reg word true true d e f g = rw (e, f) refl
+uart_no_reset p reg word true false true e f g = rw (e, f, g) refl
+uart_no_reset p reg word true false false e f g = rw (e, f, g) refl
+
+uart_store : (p : Port) (reg word : ℕ) → ServesPort p (store_sent p reg word) (stored p reg word)
+uart_store p reg word = record {
+  credits = spends p reg word;
+  closed = λ c. rw c refl;
+  no_reset = uart_no_reset p reg word _ _ _ refl refl refl;
+}
+
+-- what an access does to the front of uart0
+abbrev ServesUart0 : Fronts → Fronts → List (Option Down) → Type 0
+ServesUart0 old new downs = ServesPort old.uart0 (get_or downs 0 None) new.uart0
+
+uart0_register : (s : State) (r : Request) (reg : ℕ) (store : Option ℕ)
+    → ServesUart0 s.fronts (in_uart0 s r reg store).hub.fronts (in_uart0 s r reg store).downs
+uart0_register s r reg None = uart_load s.fronts.uart0 reg
+uart0_register s r reg (Some value) = uart_store s.fronts.uart0 reg value
+
+-- an access to another unit's registers doesn't reach the front of uart0
+past_gpio : (s : State) (r : Request) (reg : ℕ) (store : Option ℕ) → ServesUart0 s.fronts (in_gpio s r reg store).hub.fronts (in_gpio s r reg store).downs
+past_gpio s r reg None = serves_nothing s.fronts.uart0
+past_gpio s r reg (Some value) = serves_nothing s.fronts.uart0
+
+past_pwm : (s : State) (r : Request) (reg : ℕ) (store : Option ℕ) → ServesUart0 s.fronts (in_pwm s r reg store).hub.fronts (in_pwm s r reg store).downs
+past_pwm s r reg None = serves_nothing s.fronts.uart0
+past_pwm s r reg (Some value) = serves_nothing s.fronts.uart0
+
+uart0_device : (s : State) (r : Request) (unit reg : ℕ) (is_uart0 is_gpio is_pwm : Bool) → eqb unit 1 ≡ is_uart0 → eqb unit 4 ≡ is_gpio → eqb unit 5 ≡ is_pwm
+    → ServesUart0 s.fronts (in_device s r unit reg).hub.fronts (in_device s r unit reg).downs
+uart0_device s r unit reg true b c d e f = rw d (uart0_register s r reg r.store)
+uart0_device s r unit reg false true c d e f = rw (d, e) (past_gpio s r reg r.store)
+uart0_device s r unit reg false false true d e f = rw (d, e, f) (past_pwm s r reg r.store)
+uart0_device s r unit reg false false false d e f = rw (d, e, f) (serves_nothing s.fronts.uart0)
+
+-- what a cycle does to the front of uart0, after the arrivals
+pub serves_uart0 : (s : State) (now : ℕ) (ups : List (Option Up))
+    → ServesPort (heard s ups).fronts.uart0 (get_or (hub_cycle s now ups).downs 0 None) (hub_cycle s now ups).hub.fronts.uart0
+serves_uart0 = cycle_fronts ServesUart0 (record {
+  quiet = λ f. serves_nothing f.uart0;
+  device = λ s r unit reg. uart0_device s r unit reg _ _ _ refl refl refl;
+})
+
+-- what an access does to the answers that a front without entries waits for: nothing, and it sends no Reset
+pub record ServesAnswers (old : ℕ) (down : Option Down) (new : ℕ) : Type 0 where
+  pub owed : new ≡ old
+  pub no_reset : reset_in down ≡ 0
+
+abbrev ServesGpio : Fronts → Fronts → List (Option Down) → Type 0
+ServesGpio old new downs = ServesAnswers old.gpio.owed (get_or downs 3 None) new.gpio.owed
+
+abbrev ServesPwm : Fronts → Fronts → List (Option Down) → Type 0
+ServesPwm old new downs = ServesAnswers old.pwm.owed (get_or downs 4 None) new.pwm.owed
+
+no_answers : (owed : ℕ) → ServesAnswers owed None owed
+no_answers owed = record { owed = refl; no_reset = refl }
+
+gpio_written : (p : PinRegisters) (reg word : ℕ) (a b c : Bool) → eqb reg 4 ≡ a → eqb reg 8 ≡ b → eqb reg 12 ≡ c → (pins_written p reg word).owed ≡ p.owed
+gpio_written p reg word true b c d e f = rw d refl
+gpio_written p reg word false true c d e f = rw (d, e) refl
+gpio_written p reg word false false true d e f = rw (d, e, f) refl
+gpio_written p reg word false false false d e f = rw (d, e, f) refl
+
+gpio_store : (p : PinRegisters) (reg word : ℕ) (open_now is_out : Bool) → eqb p.owed 0 ≡ open_now → eqb reg 4 ≡ is_out
+    → ServesAnswers p.owed (pins_sent p reg word) (pins_stored p reg word).owed
+gpio_store p reg word false b e f = rw e record { owed = refl; no_reset = refl }
+gpio_store p reg word true true e f = record { owed = rw e (gpio_written p reg word _ _ _ refl refl refl); no_reset = rw (e, f) refl }
+gpio_store p reg word true false e f = record { owed = rw e (gpio_written p reg word _ _ _ refl refl refl); no_reset = rw (e, f) refl }
+
+pwm_store : (p : DutyRegisters) (reg word : ℕ) (open_now control : Bool) → eqb p.owed 0 ≡ open_now → eqb reg 0 ≡ control
+    → ServesAnswers p.owed (duty_sent p reg word) (duty_stored p reg word).owed
+pwm_store p reg word false b e f = rw e record { owed = refl; no_reset = refl }
+pwm_store p reg word true true e f = record { owed = rw (e, f) refl; no_reset = rw e refl }
+pwm_store p reg word true false e f = record { owed = rw (e, f) refl; no_reset = rw e refl }
+
+gpio_of_uart0 : (s : State) (r : Request) (reg : ℕ) (store : Option ℕ) → ServesGpio s.fronts (in_uart0 s r reg store).hub.fronts (in_uart0 s r reg store).downs
+gpio_of_uart0 s r reg None = no_answers s.fronts.gpio.owed
+gpio_of_uart0 s r reg (Some value) = no_answers s.fronts.gpio.owed
+
+gpio_register : (s : State) (r : Request) (reg : ℕ) (store : Option ℕ) → ServesGpio s.fronts (in_gpio s r reg store).hub.fronts (in_gpio s r reg store).downs
+gpio_register s r reg None = no_answers s.fronts.gpio.owed
+gpio_register s r reg (Some value) = gpio_store s.fronts.gpio reg value _ _ refl refl
+
+gpio_of_pwm : (s : State) (r : Request) (reg : ℕ) (store : Option ℕ) → ServesGpio s.fronts (in_pwm s r reg store).hub.fronts (in_pwm s r reg store).downs
+gpio_of_pwm s r reg None = no_answers s.fronts.gpio.owed
+gpio_of_pwm s r reg (Some value) = no_answers s.fronts.gpio.owed
+
+gpio_device : (s : State) (r : Request) (unit reg : ℕ) (is_uart0 is_gpio is_pwm : Bool) → eqb unit 1 ≡ is_uart0 → eqb unit 4 ≡ is_gpio → eqb unit 5 ≡ is_pwm
+    → ServesGpio s.fronts (in_device s r unit reg).hub.fronts (in_device s r unit reg).downs
+gpio_device s r unit reg true b c d e f = rw d (gpio_of_uart0 s r reg r.store)
+gpio_device s r unit reg false true c d e f = rw (d, e) (gpio_register s r reg r.store)
+gpio_device s r unit reg false false true d e f = rw (d, e, f) (gpio_of_pwm s r reg r.store)
+gpio_device s r unit reg false false false d e f = rw (d, e, f) (no_answers s.fronts.gpio.owed)
+
+pwm_of_uart0 : (s : State) (r : Request) (reg : ℕ) (store : Option ℕ) → ServesPwm s.fronts (in_uart0 s r reg store).hub.fronts (in_uart0 s r reg store).downs
+pwm_of_uart0 s r reg None = no_answers s.fronts.pwm.owed
+pwm_of_uart0 s r reg (Some value) = no_answers s.fronts.pwm.owed
+
+pwm_of_gpio : (s : State) (r : Request) (reg : ℕ) (store : Option ℕ) → ServesPwm s.fronts (in_gpio s r reg store).hub.fronts (in_gpio s r reg store).downs
+pwm_of_gpio s r reg None = no_answers s.fronts.pwm.owed
+pwm_of_gpio s r reg (Some value) = no_answers s.fronts.pwm.owed
+
+pwm_register : (s : State) (r : Request) (reg : ℕ) (store : Option ℕ) → ServesPwm s.fronts (in_pwm s r reg store).hub.fronts (in_pwm s r reg store).downs
+pwm_register s r reg None = no_answers s.fronts.pwm.owed
+pwm_register s r reg (Some value) = pwm_store s.fronts.pwm reg value _ _ refl refl
+
+pwm_device : (s : State) (r : Request) (unit reg : ℕ) (is_uart0 is_gpio is_pwm : Bool) → eqb unit 1 ≡ is_uart0 → eqb unit 4 ≡ is_gpio → eqb unit 5 ≡ is_pwm
+    → ServesPwm s.fronts (in_device s r unit reg).hub.fronts (in_device s r unit reg).downs
+pwm_device s r unit reg true b c d e f = rw d (pwm_of_uart0 s r reg r.store)
+pwm_device s r unit reg false true c d e f = rw (d, e) (pwm_of_gpio s r reg r.store)
+pwm_device s r unit reg false false true d e f = rw (d, e, f) (pwm_register s r reg r.store)
+pwm_device s r unit reg false false false d e f = rw (d, e, f) (no_answers s.fronts.pwm.owed)
+
+-- what a cycle does to the fronts of gpio and pwm, after the arrivals
+pub serves_gpio : (s : State) (now : ℕ) (ups : List (Option Up))
+    → ServesAnswers (heard s ups).fronts.gpio.owed (get_or (hub_cycle s now ups).downs 3 None) (hub_cycle s now ups).hub.fronts.gpio.owed
+serves_gpio = cycle_fronts ServesGpio (record {
+  quiet = λ f. no_answers f.gpio.owed;
+  device = λ s r unit reg. gpio_device s r unit reg _ _ _ refl refl refl;
+})
+
+pub serves_pwm : (s : State) (now : ℕ) (ups : List (Option Up))
+    → ServesAnswers (heard s ups).fronts.pwm.owed (get_or (hub_cycle s now ups).downs 4 None) (hub_cycle s now ups).hub.fronts.pwm.owed
+serves_pwm = cycle_fronts ServesPwm (record {
+  quiet = λ f. no_answers f.pwm.owed;
+  device = λ s r unit reg. pwm_device s r unit reg _ _ _ refl refl refl;
+})
+
+-- what an arrival does to the answers that a front waits for
+pub record HearsAnswers (before : ℕ) (up : Option Up) (after : ℕ) : Type 0 where
+  pub still : before ≡ 0 → after ≡ 0
+  pub answers : 1 ≤ before → after + done_in up ≡ before
+
+owed_by : (owed after : ℕ) (up : Up) (open_now done : Bool) → eqb owed 0 ≡ open_now → up.done ≡ done
+    → (open_now ≡ true → after ≡ owed) → (open_now ≡ false → done ≡ true → after ≡ owed - 1) → (open_now ≡ false → done ≡ false → after ≡ owed)
+    → HearsAnswers owed (Some up) after
+owed_by owed after up true d e f g h i =
+    let none : owed ≡ 0 = grind (arith, nat_tests) in
+    let same : after ≡ owed = g refl in
+    record { still = λ z. omega (arith, same, none); answers = λ z. absurd (omega (arith, z, none)) }
+owed_by owed after up false true e f g h i =
+    let less : after ≡ owed - 1 = h refl refl in
+    let one : done_in (Some up) ≡ 1 = rw f refl in
+    let some : 1 ≤ owed = grind (arith, nat_tests) in
+    record { still = λ z. absurd (omega (arith, z, some)); answers = λ z. omega (arith, less, one, some) }
+owed_by owed after up false false e f g h i =
+    let same : after ≡ owed = i refl refl in
+    let none : done_in (Some up) ≡ 0 = rw f refl in
+    record { still = λ z. omega (arith, z, same); answers = λ z. omega (arith, same, none) }
+
+gpio_open : (p : PinRegisters) (up : Up) (takes : Bool) → (up.has && not up.done) ≡ takes → (pins_arrived_open p up).owed ≡ p.owed
+gpio_open p up true e = rw e refl
+gpio_open p up false e = rw e refl
+
+gpio_answered : (p : PinRegisters) (up : Up) (opens : Bool) → (eqb (p.owed - 1) 0 && up.has) ≡ opens → (pins_answered p up).owed ≡ p.owed - 1
+gpio_answered p up true e = rw e refl
+gpio_answered p up false e = rw e refl
+
+pub gpio_hears : (p : PinRegisters) (up : Option Up) → HearsAnswers p.owed up (heard_by_gpio p up).owed
+gpio_hears p None = record { still = λ z. z; answers = λ z. omega arith }
+gpio_hears p (Some up) = owed_by p.owed (pins_arrived p up).owed up (eqb p.owed 0) up.done refl refl
+    (λ o. rw o (gpio_open p up _ refl)) (λ o d. rw (o, d) (gpio_answered p up _ refl)) (λ o d. rw (o, d) refl)
+
+pub pwm_hears : (p : DutyRegisters) (up : Option Up) → HearsAnswers p.owed up (heard_by_pwm p up).owed
+pwm_hears p None = record { still = λ z. z; answers = λ z. omega arith }
+pwm_hears p (Some up) = owed_by p.owed (duty_arrived p up).owed up (eqb p.owed 0) up.done refl refl
+    (λ o. pwm_open o _ refl) (λ o d. rw (o, d) refl) (λ o d. rw d refl)
+  where
+    pwm_open : eqb p.owed 0 ≡ true → (d : Bool) → up.done ≡ d → (duty_arrived p up).owed ≡ p.owed
+    pwm_open o true e = rw (e, o) refl
+    pwm_open o false e = rw e refl

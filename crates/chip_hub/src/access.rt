@@ -1,0 +1,237 @@
+//! Accesses that were granted.
+ghost use Rattle.std.specs.Prelude.{◌≡◌, ◌⊎◌, ◌*◌, ◌/◌, ℕ, Ok, Err, IsTrue, length, true};
+ghost use Rattle.core_pair.specs.Clint.{clint_offsets, is_among};
+ghost use Rattle.core_pair.specs.Mailbox.{mailbox_offsets};
+ghost use Rattle.dma_unit.specs.Copier.{is_busy};
+ghost use Rattle.soc_bus.specs.Map.{admitted};
+ghost use Rattle.chip_hub.specs.Offsets.{dma_fits, fits_at, unit_fits};
+ghost use Rattle.chip_hub.specs.Access.{offset_in, open_word, silent};
+ghost use Rattle.chip_hub.specs.Access.{accessed, in_clint, in_device, in_dma, in_gpio, in_mailbox, in_memory, in_pwm, in_region, in_sysinfo, in_uart0, sysinfo_word};
+
+use crate::hub::Hub;
+use crate::parts::{bit_if, offset_in, part_of_word};
+use chip_base::Down;
+use soc_bus::{BusFault, Region, Request, admit};
+
+/// The size in bytes of the CLINT's part of the map, and of those of SYSINFO, the mailbox and the DMA.
+const CLINT: u32 = 0x1_0000;
+
+const SMALL: u32 = 0x100;
+
+/// No message for any of the seven units.
+pub const SILENT: [Option<Down>; 7] = [None; 7];
+
+/// What an access gives its master, and the messages that go down to the units.
+#[derive(Clone, Copy, Debug)]
+pub struct Access {
+    pub answer: Result<u32, BusFault>,
+    pub downs: [Option<Down>; 7],
+}
+
+/// A load that gives this word.
+const fn loaded(word: u32) -> Access
+    ensures { result ≡ record { answer = Ok word; downs = silent } }
+{
+    Access {
+        answer: Ok(word),
+        downs: SILENT,
+    }
+}
+
+/// A store that is done, with a message for each unit.
+const fn stored(downs: [Option<Down>; 7]) -> Access
+    ensures { result ≡ record { answer = Ok 0; downs = downs } }
+{
+    Access {
+        answer: Ok(0),
+        downs,
+    }
+}
+
+/// An access that is refused.
+const fn refused(fault: BusFault) -> Access
+    ensures { result ≡ record { answer = Err fault; downs = silent } }
+{
+    Access {
+        answer: Err(fault),
+        downs: SILENT,
+    }
+}
+
+impl Hub {
+    fn access_memory(&mut self, request: &Request) -> Access
+        ensures step { record { hub = self.new; answer = result.answer; downs = result.downs } ≡ in_memory self.old request.now request.now.store }
+        ensures dma { self.new.dma ≡ self.old.dma }
+    {
+        match request.store {
+            None => Access {
+                answer: self.memory.load(request.addr, request.width),
+                downs: SILENT,
+            },
+            Some(value) => match self.memory.store(request.addr, request.width, value) {
+                Ok(()) => stored(SILENT),
+                Err(fault) => refused(fault),
+            },
+        }
+    }
+
+    fn access_clint(&mut self, request: &Request) -> Access
+        requires { IsTrue (is_among clint_offsets (offset_in 0x10000 request.now)) }
+        ensures step { record { hub = self.new; answer = result.answer; downs = result.downs } ≡ in_clint self.old request.now request.now.store }
+        ensures dma { self.new.dma ≡ self.old.dma }
+    {
+        let offset = offset_in(CLINT, request);
+        match request.store {
+            None => loaded(part_of_word(request, self.clint.load(offset))),
+            Some(value) => {
+                self.clint.store(offset, value);
+                stored(SILENT)
+            }
+        }
+    }
+
+    fn access_mailbox(&mut self, request: &Request) -> Access
+        requires { IsTrue (is_among mailbox_offsets (offset_in 0x100 request.now)) }
+        ensures step { record { hub = self.new; answer = result.answer; downs = result.downs } ≡ in_mailbox self.old request.now request.now.store }
+        ensures dma { self.new.dma ≡ self.old.dma }
+    {
+        let offset = offset_in(SMALL, request);
+        match request.store {
+            None => loaded(part_of_word(request, self.mailbox.load(offset))),
+            Some(value) => {
+                self.mailbox.store(offset, value);
+                stored(SILENT)
+            }
+        }
+    }
+
+    fn access_dma(&mut self, request: &Request) -> Access
+        requires { dma_fits (offset_in 0x100 request.now) ≡ true }
+        ensures step { record { hub = self.new; answer = result.answer; downs = result.downs } ≡ in_dma self.old request.now request.now.store }
+        ensures dma { is_busy self.old.dma.state ≡ true → self.new.dma ≡ self.old.dma }
+    {
+        let reg = offset_in(SMALL, request) as u8;
+        match request.store {
+            None => loaded(part_of_word(request, self.dma.load(reg))),
+            Some(value) => {
+                self.dma.store(reg, value);
+                stored(SILENT)
+            }
+        }
+    }
+
+    /// The bits of the units whose fronts are open, by the units' numbers. A unit that isn't built counts as open.
+    fn open_fronts(&self) -> u32
+        ensures { result ≡ open_word self.now.fronts }
+    {
+        bit_if(1, self.uart0.is_open())
+            + bit_if(4, self.gpio.is_open())
+            + bit_if(5, self.pwm.is_open())
+            + 0xcc
+    }
+
+    /// The word of a register that tells the settings.
+    fn sysinfo(&self, offset: u32) -> u32
+        ensures { result ≡ sysinfo_word self.now offset }
+    {
+        match offset {
+            0 => self.clock,
+            4 => self.memory.imem_size(),
+            8 => self.memory.dmem_size(),
+            _ => self.open_fronts(),
+        }
+    }
+
+    fn access_sysinfo(&mut self, request: &Request) -> Access
+        ensures step { record { hub = self.new; answer = result.answer; downs = result.downs } ≡ in_sysinfo self.old request.now request.now.store }
+        ensures dma { self.new.dma ≡ self.old.dma }
+    {
+        match request.store {
+            None => loaded(part_of_word(request, self.sysinfo(offset_in(SMALL, request)))),
+            Some(_) => stored(SILENT),
+        }
+    }
+
+    fn access_uart0(&mut self, request: &Request, reg: u8) -> Access
+        requires { (reg ≡ 0) ⊎ (reg ≡ 4) }
+        ensures step { record { hub = self.new; answer = result.answer; downs = result.downs } ≡ in_uart0 self.old request.now reg request.now.store }
+        ensures dma { self.new.dma ≡ self.old.dma }
+    {
+        match request.store {
+            None => loaded(part_of_word(request, self.uart0.load(reg))),
+            Some(value) => {
+                let down = self.uart0.store(reg, value);
+                stored([down, None, None, None, None, None, None])
+            }
+        }
+    }
+
+    fn access_gpio(&mut self, request: &Request, reg: u8) -> Access
+        requires { (reg ≡ 0) ⊎ (reg ≡ 4) ⊎ (reg ≡ 8) ⊎ (reg ≡ 12) }
+        ensures step { record { hub = self.new; answer = result.answer; downs = result.downs } ≡ in_gpio self.old request.now reg request.now.store }
+        ensures dma { self.new.dma ≡ self.old.dma }
+    {
+        match request.store {
+            None => loaded(part_of_word(request, self.gpio.load(reg))),
+            Some(value) => {
+                let down = self.gpio.store(reg, value);
+                stored([None, None, None, down, None, None, None])
+            }
+        }
+    }
+
+    fn access_pwm(&mut self, request: &Request, reg: u8) -> Access
+        requires { (reg ≡ 0) ⊎ (reg ≡ 4) ⊎ (reg ≡ 8) ⊎ (reg ≡ 12) ⊎ (reg ≡ 16) }
+        ensures step { record { hub = self.new; answer = result.answer; downs = result.downs } ≡ in_pwm self.old request.now reg request.now.store }
+        ensures dma { self.new.dma ≡ self.old.dma }
+    {
+        match request.store {
+            None => loaded(part_of_word(request, self.pwm.load(reg))),
+            Some(value) => {
+                let down = self.pwm.store(reg, value);
+                stored([None, None, None, None, down, None, None])
+            }
+        }
+    }
+
+    fn access_device(&mut self, request: &Request, unit: u8, reg: u8) -> Access
+        requires { unit_fits unit reg ≡ true }
+        ensures step { record { hub = self.new; answer = result.answer; downs = result.downs } ≡ in_device self.old request.now unit reg }
+        ensures dma { self.new.dma ≡ self.old.dma }
+    {
+        match unit {
+            1 => self.access_uart0(request, reg),
+            4 => self.access_gpio(request, reg),
+            5 => self.access_pwm(request, reg),
+            _ => refused(BusFault::Unmapped),
+        }
+    }
+
+    fn access_region(&mut self, request: &Request, region: Region) -> Access
+        requires { fits_at (4 * (request.now.addr / 4)) region ≡ true }
+        ensures step { record { hub = self.new; answer = result.answer; downs = result.downs } ≡ in_region self.old request.now region }
+        ensures dma { is_busy self.old.dma.state ≡ true → self.new.dma ≡ self.old.dma }
+    {
+        match region {
+            Region::Imem => self.access_memory(request),
+            Region::Dmem => self.access_memory(request),
+            Region::Clint => self.access_clint(request),
+            Region::Mailbox => self.access_mailbox(request),
+            Region::Sysinfo => self.access_sysinfo(request),
+            Region::Dma => self.access_dma(request),
+            Region::Device { unit, reg } => self.access_device(request, unit, reg),
+        }
+    }
+
+    /// Makes the access of a request.
+    #[tactic(auto, using(crate::proofs::Offsets::admitted_fits), unfolding(crate::specs::Access::accessed))]
+    pub fn access(&mut self, request: &Request) -> Access
+        ensures step { record { hub = self.new; answer = result.answer; downs = result.downs } ≡ accessed self.old request.now }
+        ensures dma { is_busy self.old.dma.state ≡ true → self.new.dma ≡ self.old.dma }
+    {
+        match admit(request, self.memory.imem_size(), self.memory.dmem_size()) {
+            Ok(region) => self.access_region(request, region),
+            Err(fault) => refused(fault),
+        }
+    }
+}

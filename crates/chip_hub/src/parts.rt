@@ -1,0 +1,33 @@
+//! Small parts of the hub's accesses.
+ghost use Rattle.std.specs.Prelude.{◌≡◌, ◌+◌, ◌*◌, ◌/◌, ◌<◌, ◌≤◌, ◌^◌, length};
+ghost use Rattle.chip_hub.specs.Access.{bit_if, offset_in, part_of_word};
+
+use soc_bus::{Request, Width};
+
+/// The bytes of a register's word that a load asks for, with zeros above.
+pub fn part_of_word(request: &Request, word: u32) -> u32
+    ensures { result ≡ part_of_word request.now word }
+{
+    let shifted = word >> (8 * (request.addr % 4));
+    match request.width {
+        Width::Byte => shifted % 0x100,
+        Width::Half => shifted % 0x1_0000,
+        Width::Word => shifted,
+    }
+}
+
+/// The offset of a register in a part of the map of this size in bytes.
+pub fn offset_in(size: u32, request: &Request) -> u32
+    requires { 0 < size }
+    ensures { result ≡ offset_in size request.now }
+{
+    4 * (request.addr / 4) % size
+}
+
+/// The bit of a unit, where it is set.
+pub fn bit_if(bit: u32, set: bool) -> u32
+    requires { bit < 32 }
+    ensures { result ≡ bit_if bit set }
+{
+    if set { 1 << bit } else { 0 }
+}

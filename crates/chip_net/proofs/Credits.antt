@@ -1,0 +1,331 @@
+-- One cycle of a front, its two lines and its unit, as far as credits and answers go.
+use Rattle.std.proofs.Common.{◌≡◌, ◌≤◌, ◌<◌, ℕ, zero, suc, ◌+◌, ◌⊎◌, inl, inr, min, Bool, true, false, eqb, ltb, cond, List, [], ◌∷◌, ◌++◌, length, Option, None, Some, refl, ap, ◌∙◌, arith, length-append}
+use Rattle.std.proofs.lemmas.Bool.Decides.{nat_tests}
+use Rattle.chip_base.specs.declared.message.Down.{Down}
+use Rattle.chip_base.specs.declared.message.Down.TheVariants.{Reset, Set}
+use Rattle.chip_base.specs.declared.message.Up.{Up}
+use Rattle.chip_base.specs.Messages.{data_in, credit_in, reset_in, done_in}
+use Rattle.chip_hub.specs.Cycle.{heard_by}
+use Rattle.chip_hub.proofs.Fronts.{ServesPort}
+use Rattle.delay_line.specs.Queue.{empty_line}
+use Rattle.soc_words.specs.Line.{first_of, moved}
+use Rattle.unit_fronts.specs.Counts.{HearsUnit}
+use Rattle.unit_fronts.specs.Port.{Port, is_open_of, arrived, credited, received_by, closed, reset_owing}
+use Rattle.unit_fronts.proofs.Counts.{hears}
+use Rattle.chip_net.specs.Credits.{count_on, NoneBehind, HasSixteen}
+
+-- what a cycle of a unit does to the number of its entries
+pub record CountsEntries (old : ℕ) (down : Option Down) (new : ℕ) (up : Option Up) : Type 0 where
+  pub entries : reset_in down ≡ 0 → old + data_in down ≤ 16 → new + credit_in up ≡ old + data_in down
+  pub after_reset : reset_in down ≡ 1 → new + credit_in up ≡ 0
+  pub answers : done_in up ≡ reset_in down
+
+-- the front's side of both lines after the places that arrive were taken off
+pub count_more : {M : Type 0} (count : Option M → ℕ) (line : List (Option M)) (m : Option M) → count_on count (line ++ m ∷ []) ≡ count_on count line + count m
+count_more count [] m = omega arith
+count_more count (x ∷ rest) m = let more : count_on count (rest ++ m ∷ []) ≡ count_on count rest + count m = count_more count rest m in omega (arith, more)
+
+-- a message that isn't of the second kind, or behind none of the first
+pub behind_more : {M : Type 0} (first second : Option M → ℕ) (line : List (Option M)) (m : Option M) → (second m ≡ 0) ⊎ (count_on first line ≡ 0)
+    → NoneBehind first second line → NoneBehind first second (line ++ m ∷ [])
+behind_more first second [] m h n = (λ e. refl, tt)
+behind_more first second (x ∷ rest) m (inl none) n = (
+  λ e. let before : count_on second rest ≡ 0 = n.0 e in
+      let more : count_on second (rest ++ m ∷ []) ≡ count_on second rest + second m = count_more second rest m in
+      omega (arith, before, more, none),
+  behind_more first second rest m (inl none) n.1,
+)
+behind_more first second (x ∷ rest) m (inr none) n =
+    (λ e. absurd (omega (arith, e, none)), behind_more first second rest m (inr (omega (arith, none))) n.1)
+
+open_owes_none : (p : Port) → is_open_of p ≡ true → p.owed ≡ 0
+open_owes_none p h = let z : eqb p.owed 0 ≡ true = h in grind (arith, nat_tests)
+
+closed_owes : (p : Port) → is_open_of p ≡ false → 1 ≤ p.owed
+closed_owes p h = let z : eqb p.owed 0 ≡ false = h in grind (arith, nat_tests)
+
+owes_is_closed : (p : Port) → 1 ≤ p.owed → is_open_of p ≡ false
+owes_is_closed p h = grind (arith, nat_tests)
+
+owes_none_is_open : (p : Port) → p.owed ≡ 0 → is_open_of p ≡ true
+owes_none_is_open p h = grind (arith, nat_tests)
+
+-- at most all sixteen are in the front
+pub few_credits : (p : Port) (downs : List (Option Down)) (entries : ℕ) (ups : List (Option Up)) → HasSixteen p downs entries ups → p.credits ≤ 16
+few_credits p downs entries ups h = by_open _ refl
+  where
+    by_open : (b : Bool) → is_open_of p ≡ b → p.credits ≤ 16
+    by_open true e = let s : p.credits + count_on data_in downs + entries + count_on credit_in ups ≡ 16 = h.sum e in omega (arith, s)
+    by_open false e = let s : p.credits ≡ 16 = h.all e in omega (arith, s)
+
+-- the front hears what arrives, which leaves the line up
+
+heard_open : (p : Port) (downs : List (Option Down)) (entries : ℕ) (u : Up) (ups : List (Option Up)) (new : Port) → is_open_of p ≡ true
+    → HearsUnit p u new → new.owed ≡ p.owed → HasSixteen p downs entries (Some u ∷ ups) → HasSixteen new downs entries ups
+heard_open p downs entries u ups new o r owed h =
+    let none : p.owed ≡ 0 = open_owes_none p o in
+    let coming : p.owed ≡ count_on reset_in downs + (done_in (Some u) + count_on done_in ups) = h.answers in
+    let total : p.credits + count_on data_in downs + entries + (credit_in (Some u) + count_on credit_in ups) ≡ 16 = h.sum o in
+    let gone : done_in (Some u) ≡ 0 = omega (arith, none, coming) in
+    let credits : new.credits ≡ min 16 (p.credits + credit_in (Some u)) = r.credits o gone in
+    record {
+      sum = λ e. omega (arith, total, credits);
+      all = λ e. absurd (omega (arith, closed_owes new e, owed, none));
+      room = omega (arith, total);
+      answers = omega (arith, owed, none, coming);
+      behind_reset = h.behind_reset;
+      behind_answer = h.behind_answer.1;
+      answered = λ e. absurd (omega (arith, e, none, coming));
+    }
+
+heard_closed : (p : Port) (downs : List (Option Down)) (entries : ℕ) (u : Up) (ups : List (Option Up)) (new : Port) → is_open_of p ≡ false
+    → HearsUnit p u new → HasSixteen p downs entries (Some u ∷ ups) → HasSixteen new downs entries ups
+heard_closed p downs entries u ups new c r h =
+    let coming : p.owed ≡ count_on reset_in downs + (done_in (Some u) + count_on done_in ups) = h.answers in
+    let left : new.owed + done_in (Some u) ≡ p.owed = r.answers c in
+    let credits : new.credits ≡ p.credits = ap (λ q. q.credits) (r.still c) in
+    let sixteen : p.credits ≡ 16 = h.all c in
+    let small : count_on data_in downs + entries + (credit_in (Some u) + count_on credit_in ups) ≤ 16 = h.room in
+    record {
+      sum = λ e.
+          let none : new.owed ≡ 0 = open_owes_none new e in
+          let owes : 1 ≤ p.owed = closed_owes p c in
+          let last : done_in (Some u) ≡ 1 = omega (arith, none, owes, left, done_at_most u) in
+          let behind : count_on credit_in ups ≡ 0 = h.behind_answer.0 last in
+          let empty : (entries ≡ 0) × (count_on data_in downs ≡ 0) = h.answered (omega (arith, last)) in
+          omega (arith, credits, sixteen, behind, empty.0, empty.1);
+      all = λ e. omega (arith, credits, sixteen);
+      room = omega (arith, small);
+      answers = omega (arith, coming, left);
+      behind_reset = h.behind_reset;
+      behind_answer = h.behind_answer.1;
+      answered = λ e. h.answered (omega (arith, e));
+    }
+  where
+    done_at_most : (u : Up) → done_in (Some u) ≤ 1
+    done_at_most u = at_most u.done
+      where
+        at_most : (b : Bool) → cond b 1 0 ≤ 1
+        at_most true = omega arith
+        at_most false = omega arith
+
+-- an open front waits for no answer after an arrival either
+arrived_owed : (p : Port) (u : Up) → is_open_of p ≡ true → (arrived p u).owed ≡ p.owed
+arrived_owed p u o = rw o (by_done u.done)
+  where
+    by_room : (q : Port) (word : ℕ) (b : Bool)
+        → (cond b (record q { received = q.received ++ word ∷ [] }) (record q { overrun = true })).owed ≡ q.owed
+    by_room q word true = refl
+    by_room q word false = refl
+
+    by_has : (q : Port) (has : Bool) (word : ℕ) → (received_by q has word).owed ≡ q.owed
+    by_has q true word = by_room q word (ltb (length q.received) 16)
+    by_has q false word = refl
+
+    by_credit : (q : Port) (credit : Bool) → (credited q credit).owed ≡ q.owed
+    by_credit q true = refl
+    by_credit q false = refl
+
+    by_done : (b : Bool) → (cond b p (received_by (credited p u.credit) u.has u.word)).owed ≡ p.owed
+    by_done true = refl
+    by_done false = by_has (credited p u.credit) u.has u.word ∙ by_credit p u.credit
+
+heard_some : (p : Port) (downs : List (Option Down)) (entries : ℕ) (u : Up) (ups : List (Option Up)) → HasSixteen p downs entries (Some u ∷ ups)
+    → HasSixteen (arrived p u) downs entries ups
+heard_some p downs entries u ups h = by_open _ refl
+  where
+    by_open : (b : Bool) → is_open_of p ≡ b → HasSixteen (arrived p u) downs entries ups
+    by_open true e = heard_open p downs entries u ups (arrived p u) e (hears p u (few_credits p downs entries (Some u ∷ ups) h)) (arrived_owed p u e) h
+    by_open false e = heard_closed p downs entries u ups (arrived p u) e (hears p u (few_credits p downs entries (Some u ∷ ups) h)) h
+
+heard_none : (p : Port) (downs : List (Option Down)) (entries : ℕ) (ups : List (Option Up)) → HasSixteen p downs entries (None ∷ ups)
+    → HasSixteen p downs entries ups
+heard_none p downs entries ups h = record {
+  sum = λ e. omega (arith, h.sum e);
+  all = h.all;
+  room = omega (arith, h.room);
+  answers = omega (arith, h.answers);
+  behind_reset = h.behind_reset;
+  behind_answer = h.behind_answer.1;
+  answered = λ e. h.answered (omega (arith, e));
+}
+
+pub heard_keeps : (p : Port) (downs : List (Option Down)) (entries : ℕ) (up : Option Up) (ups : List (Option Up)) → HasSixteen p downs entries (up ∷ ups)
+    → HasSixteen (heard_by p up) downs entries ups
+heard_keeps p downs entries None ups h = heard_none p downs entries ups h
+heard_keeps p downs entries (Some u) ups h = heard_some p downs entries u ups h
+
+-- the front sends a message, which is the last on the line down
+
+pub served_keeps : (p : Port) (downs : List (Option Down)) (entries : ℕ) (ups : List (Option Up)) (down : Option Down) (new : Port)
+    → ServesPort p down new → HasSixteen p downs entries ups → HasSixteen new (downs ++ down ∷ []) entries ups
+served_keeps p downs entries ups down new s h = by_open _ refl
+  where
+    datas : count_on data_in (downs ++ down ∷ []) ≡ count_on data_in downs + data_in down
+    datas = count_more data_in downs down
+
+    resets : count_on reset_in (downs ++ down ∷ []) ≡ count_on reset_in downs + reset_in down
+    resets = count_more reset_in downs down
+
+    by_open : (b : Bool) → is_open_of p ≡ b → HasSixteen new (downs ++ down ∷ []) entries ups
+    by_open true e =
+        let none : p.owed ≡ 0 = open_owes_none p e in
+        let coming : p.owed ≡ count_on reset_in downs + count_on done_in ups = h.answers in
+        let total : p.credits + count_on data_in downs + entries + count_on credit_in ups ≡ 16 = h.sum e in
+        let spent : new.credits + data_in down ≡ p.credits = s.credits.credits in
+        let owed : new.owed ≡ p.owed = s.credits.owed in
+        record {
+          sum = λ f. omega (arith, total, spent, datas);
+          all = λ f. absurd (omega (arith, closed_owes new f, owed, none));
+          room = omega (arith, total, spent, datas);
+          answers = omega (arith, owed, coming, resets, s.no_reset);
+          behind_reset = behind_more reset_in data_in downs down (inr (omega (arith, none, coming))) h.behind_reset;
+          behind_answer = h.behind_answer;
+          answered = λ f. absurd (omega (arith, f, none, coming));
+        }
+    by_open false e =
+        let nothing : data_in down ≡ 0 = s.closed e in
+        let coming : p.owed ≡ count_on reset_in downs + count_on done_in ups = h.answers in
+        let small : count_on data_in downs + entries + count_on credit_in ups ≤ 16 = h.room in
+        let spent : new.credits + data_in down ≡ p.credits = s.credits.credits in
+        let owed : new.owed ≡ p.owed = s.credits.owed in
+        let sixteen : p.credits ≡ 16 = h.all e in
+        record {
+          sum = λ f. absurd (omega (arith, open_owes_none new f, owed, closed_owes p e));
+          all = λ f. omega (arith, spent, nothing, sixteen);
+          room = omega (arith, small, datas, nothing);
+          answers = omega (arith, owed, coming, resets, s.no_reset);
+          behind_reset = behind_more reset_in data_in downs down (inl nothing) h.behind_reset;
+          behind_answer = h.behind_answer;
+          answered = λ f. let empty : (entries ≡ 0) × (count_on data_in downs ≡ 0) = h.answered f in (empty.0, omega (arith, empty.1, datas, nothing));
+        }
+
+-- the front closes, and its Reset is the last on the line down
+
+pub closed_keeps : (p : Port) (downs : List (Option Down)) (entries : ℕ) (ups : List (Option Up)) → p.owed < 8192
+    → HasSixteen p downs entries ups → HasSixteen (closed p) (downs ++ Some Reset ∷ []) entries ups
+closed_keeps p downs entries ups l h =
+    let coming : p.owed ≡ count_on reset_in downs + count_on done_in ups = h.answers in
+    let small : count_on data_in downs + entries + count_on credit_in ups ≤ 16 = h.room in
+    let datas : count_on data_in (downs ++ Some Reset ∷ []) ≡ count_on data_in downs + 0 = count_more data_in downs (Some Reset) in
+    let resets : count_on reset_in (downs ++ Some Reset ∷ []) ≡ count_on reset_in downs + 1 = count_more reset_in downs (Some Reset) in
+    let owed : (closed p).owed ≡ p.owed + 1 = omega (arith, l) in
+    record {
+      sum = λ f. absurd (omega (arith, open_owes_none (closed p) f, owed));
+      all = λ f. refl;
+      room = omega (arith, small, datas);
+      answers = omega (arith, owed, coming, resets);
+      behind_reset = behind_more reset_in data_in downs (Some Reset) (inl refl) h.behind_reset;
+      behind_answer = h.behind_answer;
+      answered = λ f. let empty : (entries ≡ 0) × (count_on data_in downs ≡ 0) = h.answered f in (empty.0, omega (arith, empty.1, datas));
+    }
+
+-- the unit takes what arrives, which leaves the line down, and its message is the last on the line up
+
+reset_or_not : (down : Option Down) → (reset_in down ≡ 0) ⊎ (reset_in down ≡ 1)
+reset_or_not None = inl refl
+reset_or_not (Some Reset) = inr refl
+reset_or_not (Some (Set reg word)) = inl refl
+
+pub unit_keeps : (p : Port) (down : Option Down) (downs : List (Option Down)) (entries new : ℕ) (ups : List (Option Up)) (up : Option Up)
+    → CountsEntries entries down new up → HasSixteen p (down ∷ downs) entries ups → HasSixteen p downs new (ups ++ up ∷ [])
+unit_keeps p down downs entries new ups up u h = by_reset (reset_or_not down)
+  where
+    credits : count_on credit_in (ups ++ up ∷ []) ≡ count_on credit_in ups + credit_in up
+    credits = count_more credit_in ups up
+
+    dones : count_on done_in (ups ++ up ∷ []) ≡ count_on done_in ups + done_in up
+    dones = count_more done_in ups up
+
+    by_reset : (reset_in down ≡ 0) ⊎ (reset_in down ≡ 1) → HasSixteen p downs new (ups ++ up ∷ [])
+    by_reset (inl none) =
+        let small : data_in down + count_on data_in downs + entries + count_on credit_in ups ≤ 16 = h.room in
+        let count : new + credit_in up ≡ entries + data_in down = u.entries none (omega (arith, small)) in
+        let coming : p.owed ≡ reset_in down + count_on reset_in downs + count_on done_in ups = h.answers in
+        record {
+          sum = λ e. let total : p.credits + (data_in down + count_on data_in downs) + entries + count_on credit_in ups ≡ 16 = h.sum e in
+              omega (arith, total, count, credits);
+          all = h.all;
+          room = omega (arith, small, count, credits);
+          answers = omega (arith, coming, dones, none, u.answers);
+          behind_reset = h.behind_reset.1;
+          behind_answer = behind_more done_in credit_in ups up (by_answer (count_on done_in ups) refl) h.behind_answer;
+          answered = λ e.
+              let empty : (entries ≡ 0) × (data_in down + count_on data_in downs ≡ 0) = h.answered (omega (arith, e, dones, none, u.answers)) in
+              (omega (arith, empty.0, empty.1, count), omega (arith, empty.1));
+        }
+      where
+        by_answer : (n : ℕ) → count_on done_in ups ≡ n → (credit_in up ≡ 0) ⊎ (count_on done_in ups ≡ 0)
+        by_answer zero e = inr e
+        by_answer (suc n) e =
+            let empty : (entries ≡ 0) × (data_in down + count_on data_in downs ≡ 0) = h.answered (omega (arith, e)) in
+            let count : new + credit_in up ≡ entries + data_in down = u.entries none (omega (arith, empty.0, empty.1)) in
+            inl (omega (arith, count, empty.0, empty.1))
+    by_reset (inr one) =
+        let small : data_in down + count_on data_in downs + entries + count_on credit_in ups ≤ 16 = h.room in
+        let none : new + credit_in up ≡ 0 = u.after_reset one in
+        let coming : p.owed ≡ reset_in down + count_on reset_in downs + count_on done_in ups = h.answers in
+        let behind : count_on data_in downs ≡ 0 = h.behind_reset.0 one in
+        record {
+          sum = λ e. absurd (omega (arith, open_owes_none p e, coming, one));
+          all = h.all;
+          room = omega (arith, small, none, credits);
+          answers = omega (arith, coming, dones, one, u.answers);
+          behind_reset = h.behind_reset.1;
+          behind_answer = behind_more done_in credit_in ups up (inl (omega (arith, none))) h.behind_answer;
+          answered = λ e. (omega (arith, none), behind);
+        }
+
+-- a cycle of all four: each takes what arrives in it, and sends its message
+pub cycle_keeps : (p : Port) (downs : List (Option Down)) (entries : ℕ) (ups : List (Option Up)) (down : Option Down) (new : Port) (after : ℕ) (up : Option Up)
+    → 1 ≤ length downs → 1 ≤ length ups → ServesPort (heard_by p (first_of ups)) down new → CountsEntries entries (first_of downs) after up
+    → HasSixteen p downs entries ups → HasSixteen new (moved downs down) after (moved ups up)
+cycle_keeps p [] entries ups down new after up l m s u h = absurd (omega (arith, l))
+cycle_keeps p (d ∷ downs) entries [] down new after up l m s u h = absurd (omega (arith, m))
+cycle_keeps p (d ∷ downs) entries (w ∷ ups) down new after up l m s u h =
+    let hears_it : HasSixteen (heard_by p w) (d ∷ downs) entries ups = heard_keeps p (d ∷ downs) entries w ups h in
+    let takes_it : HasSixteen (heard_by p w) downs after (ups ++ up ∷ []) = unit_keeps (heard_by p w) d downs entries after ups up u hears_it in
+    served_keeps (heard_by p w) downs after (ups ++ up ∷ []) down new s takes_it
+
+-- nothing on its way
+
+pub count_empty : {M : Type 0} (count : Option M → ℕ) (delay : ℕ) → count None ≡ 0 → count_on count (empty_line delay) ≡ 0
+unfolding empty_line
+count_empty count zero e = refl
+count_empty count (suc n) e = let rest : count_on count (empty_line n) ≡ 0 = count_empty count n e in omega (arith, e, rest)
+
+behind_empty : {M : Type 0} (first second : Option M → ℕ) (delay : ℕ) → first None ≡ 0 → NoneBehind first second (empty_line delay)
+unfolding empty_line
+behind_empty first second zero e = tt
+behind_empty first second (suc n) e = (λ f. absurd (omega (arith, e, f)), behind_empty first second n e)
+
+-- at power-on
+pub start_has : (downs ups : ℕ) → HasSixteen (reset_owing 0) (empty_line downs) 0 (empty_line ups)
+start_has downs ups =
+    let entries : count_on data_in (empty_line downs) ≡ 0 = count_empty data_in downs refl in
+    let credits : count_on credit_in (empty_line ups) ≡ 0 = count_empty credit_in ups refl in
+    let resets : count_on reset_in (empty_line downs) ≡ 0 = count_empty reset_in downs refl in
+    let dones : count_on done_in (empty_line ups) ≡ 0 = count_empty done_in ups refl in
+    record {
+      sum = λ e. omega (arith, entries, credits);
+      all = λ e. refl;
+      room = omega (arith, entries, credits);
+      answers = omega (arith, resets, dones);
+      behind_reset = behind_empty reset_in data_in downs refl;
+      behind_answer = behind_empty done_in credit_in ups refl;
+      answered = λ e. absurd (omega (arith, e, dones));
+    }
+
+-- a line keeps its length
+
+moved_length : {M : Type 0} (line : List (Option M)) (m : Option M) → length (moved line m) ≡ length line
+moved_length [] m = refl
+moved_length (x ∷ rest) m = length-append rest (m ∷ []) ∙ omega arith
+
+pub moved_some : {M : Type 0} (line : List (Option M)) (m : Option M) → 1 ≤ length line → 1 ≤ length (moved line m)
+moved_some line m l = omega (arith, l, moved_length line m)
+
+pub empty_some : (M : Type 0) (delay : ℕ) → 1 ≤ delay → 1 ≤ length (empty_line {M = M} delay)
+unfolding empty_line
+empty_some M zero l = absurd (omega (arith, l))
+empty_some M (suc n) l = omega arith

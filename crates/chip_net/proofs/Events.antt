@@ -1,0 +1,155 @@
+-- The events of a cycle, and of all cycles.
+use Rattle.std.proofs.Common.{◌≡◌, ◌≤◌, ◌<◌, ℕ, suc, ◌⊎◌, inl, inr, Bool, true, false, eqb, ltb, length, List, [], ◌∷◌, ◌++◌, Option, None, Some, refl, subst, ◌∙◌, arith, append-nil}
+use Rattle.std.specs.Prelude.{option_to_list}
+use Rattle.board_units.specs.GpioCycle.{gpio_cycle, outputs_after}
+use Rattle.board_units.specs.GpioState.{GpioState}
+use Rattle.board_units.specs.Messages.{change_event}
+use Rattle.board_units.specs.PwmCycle.{mask_of, pwm_cycle, set_in as pwm_set}
+use Rattle.board_units.specs.PwmState.{PwmState}
+use Rattle.chip_base.specs.declared.event.Event.{Event}
+use Rattle.chip_base.specs.declared.message.Down.{Down}
+use Rattle.chip_base.specs.declared.message.Down.TheVariants.{Reset, Set}
+use Rattle.uart_lane.specs.Cycle.{Given, appended, begun, ended, may_begin, sent, set_in, unit_cycle}
+use Rattle.uart_lane.specs.State.{State as Uart}
+use Rattle.chip_net.specs.Order.{AreOrdered, AreOrderedBefore, ArePast, Precedes}
+
+-- an event, if there is one, is of this unit and cycle
+abbrev pub ToldAt : ℕ → ℕ → Option Event → Type 0
+ToldAt unit now None = Unit {0}
+ToldAt unit now (Some e) = (e.cycle ≡ now) × (e.unit ≡ unit)
+
+-- before this unit's place in this cycle
+abbrev pub IsBefore : ℕ → ℕ → Event → Type 0
+IsBefore now unit e = (e.cycle < now) ⊎ ((e.cycle ≡ now) × (e.unit < unit))
+
+-- it holds of each event
+abbrev pub EachOf : (Event → Type 0) → List Event → Type 0
+EachOf P [] = Unit {0}
+EachOf P (e ∷ rest) = P e × EachOf P rest
+
+-- events in order, all before this unit's place in this cycle
+pub record EndBefore (now unit : ℕ) (events : List Event) : Type 0 where
+  pub order : AreOrdered events
+  pub before : EachOf (IsBefore now unit) events
+
+each_weaker : (P Q : Event → Type 0) → ((e : Event) → P e → Q e) → (events : List Event) → EachOf P events → EachOf Q events
+each_weaker P Q f [] h = tt
+each_weaker P Q f (e ∷ rest) h = (f e h.0, each_weaker P Q f rest h.1)
+
+each_more : (P : Event → Type 0) (events : List Event) (e : Event) → EachOf P events → P e → EachOf P (events ++ e ∷ [])
+each_more P [] e h p = (p, tt)
+each_more P (a ∷ rest) e h p = (h.0, each_more P rest e h.1 p)
+
+order_more : (events : List Event) (e : Event) → AreOrdered events → EachOf (λ a. Precedes a e) events → AreOrdered (events ++ e ∷ [])
+order_more [] e o h = tt
+order_more (a ∷ []) e o h = (h.0, tt)
+order_more (a ∷ b ∷ rest) e o h = (o.0, order_more (b ∷ rest) e o.1 h.1)
+
+-- a place further on
+pub later_unit : (now unit more : ℕ) (events : List Event) → unit ≤ more → EndBefore now unit events → EndBefore now more events
+later_unit now unit more events l h = record { order = h.order; before = each_weaker (IsBefore now unit) (IsBefore now more) weaker events h.before }
+  where
+    weaker : (e : Event) → IsBefore now unit e → IsBefore now more e
+    weaker e (inl earlier) = inl earlier
+    weaker e (inr here) = inr (here.0, omega (arith, here.1, l))
+
+-- the cycle is over
+pub next_cycle : (now unit : ℕ) (events : List Event) → EndBefore now unit events → EndBefore (suc now) 0 events
+next_cycle now unit events h = record { order = h.order; before = each_weaker (IsBefore now unit) (IsBefore (suc now) 0) weaker events h.before }
+  where
+    weaker : (e : Event) → IsBefore now unit e → IsBefore (suc now) 0 e
+    weaker e (inl earlier) = inl (omega (arith, earlier))
+    weaker e (inr here) = inl (omega (arith, here.0))
+
+-- the unit of this place tells its event, or none
+pub told_next : (now unit : ℕ) (events : List Event) (event : Option Event) → ToldAt unit now event → EndBefore now unit events
+    → EndBefore now (suc unit) (events ++ option_to_list event)
+told_next now unit events None t h = rw (append-nil events) (later_unit now unit (suc unit) events (omega arith) h)
+told_next now unit events (Some e) t h = record {
+  order = order_more events e h.order (each_weaker (IsBefore now unit) (λ a. Precedes a e) precedes events h.before);
+  before = each_more (IsBefore now (suc unit)) events e (later_unit now unit (suc unit) events (omega arith) h).before
+      (inr (t.0, omega (arith, t.1)));
+}
+  where
+    precedes : (a : Event) → IsBefore now unit a → Precedes a e
+    precedes a (inl earlier) = inl (omega (arith, earlier, t.0))
+    precedes a (inr here) = inr (omega (arith, here.0, t.0), omega (arith, here.1, t.1))
+
+-- all are in the past before the first unit's place
+pub are_past : (now : ℕ) (events : List Event) → EndBefore now 0 events → AreOrderedBefore now events
+are_past now events h = record { order = h.order; past = all_past events h.before }
+  where
+    past : (e : Event) → IsBefore now 0 e → e.cycle < now
+    past e (inl earlier) = earlier
+    past e (inr here) = absurd (omega (arith, here.1))
+
+    all_past : (events : List Event) → EachOf (IsBefore now 0) events → ArePast now events
+    all_past [] b = tt
+    all_past (e ∷ rest) b = (past e b.0, all_past rest b.1)
+
+-- what a cycle of a UART tells
+
+-- its number stays, and its event is of its number and of this cycle
+pub record TellsOfItself (s : Uart) (now : ℕ) (g : Given) : Type 0 where
+  pub number : g.unit.number ≡ s.number
+  pub event : ToldAt s.number now g.event
+
+ended_tells : (s : Uart) (now : ℕ) (fifo : List ℕ) → TellsOfItself s now (ended s now fifo)
+ended_tells s now [] = record { number = refl; event = tt }
+ended_tells s now (b ∷ rest) = record { number = refl; event = (refl, refl) }
+
+sent_tells_by : (s : Uart) (now : ℕ) (a b : Bool) → eqb s.left 0 ≡ a → eqb s.left 1 ≡ b → TellsOfItself s now (sent s now)
+sent_tells_by s now true b p q = rw p record { number = refl; event = tt }
+sent_tells_by s now false true p q = rw (p, q) (ended_tells s now s.fifo)
+sent_tells_by s now false false p q = rw (p, q) record { number = refl; event = tt }
+
+sent_tells : (s : Uart) (now : ℕ) → TellsOfItself s now (sent s now)
+sent_tells s now = sent_tells_by s now _ _ refl refl
+
+begun_number_by : (s : Uart) (b : Bool) → may_begin s ≡ b → (begun s).number ≡ s.number
+begun_number_by s true h = rw h refl
+begun_number_by s false h = rw h refl
+
+begun_number : (s : Uart) → (begun s).number ≡ s.number
+begun_number s = begun_number_by s _ refl
+
+-- a change before the transmitter that keeps the number
+same_number : (s t : Uart) (now : ℕ) → t.number ≡ s.number → TellsOfItself s now (sent (begun t) now)
+same_number s t now e =
+    let same : (begun t).number ≡ s.number = begun_number t ∙ e in
+    let told : TellsOfItself (begun t) now (sent (begun t) now) = sent_tells (begun t) now in
+    record {
+      number = told.number ∙ same;
+      event = subst (λ number. ToldAt number now (sent (begun t) now).event) same told.event;
+    }
+
+appended_number : (s : Uart) (byte : ℕ) (b : Bool) → ltb (length s.fifo) 16 ≡ b → (appended s byte).number ≡ s.number
+appended_number s byte true e = rw e refl
+appended_number s byte false e = rw e refl
+
+set_number_by : (s : Uart) (reg word : ℕ) (a b : Bool) → eqb reg 0 ≡ a → eqb reg 4 ≡ b → (set_in s reg word).number ≡ s.number
+set_number_by s reg word true b p q = rw p refl
+set_number_by s reg word false true p q = rw (p, q) (appended_number s _ _ refl)
+set_number_by s reg word false false p q = rw (p, q) refl
+
+pub uart_tells : (s : Uart) (now : ℕ) (down : Option Down) → TellsOfItself s now (unit_cycle s now down)
+unfolding unit_cycle
+uart_tells s now None = same_number s s now refl
+uart_tells s now (Some Reset) = record { number = refl; event = tt }
+uart_tells s now (Some (Set reg word)) = same_number s (set_in s reg word) now (set_number_by s reg word _ _ refl refl)
+
+-- what the units of the pins and of pulse-width modulation tell
+
+change_tells : (now unit before after : ℕ) (same : Bool) → eqb before after ≡ same → ToldAt unit now (change_event now unit before after)
+change_tells now unit before after true e = rw e tt
+change_tells now unit before after false e = rw e (refl, refl)
+
+pub gpio_tells : (s : GpioState) (now : ℕ) (down : Option Down) → ToldAt 4 now (gpio_cycle s now down).event
+unfolding gpio_cycle
+gpio_tells s now down = change_tells now 4 s.outputs (outputs_after s.outputs down) _ refl
+
+pub pwm_tells : (s : PwmState) (now : ℕ) (down : Option Down) → ToldAt 5 now (pwm_cycle s now down).event
+unfolding pwm_cycle
+pwm_tells s now None = change_tells now 5 s.mask (mask_of s) _ refl
+pwm_tells s now (Some Reset) = change_tells now 5 s.mask 0 _ refl
+pwm_tells s now (Some (Set reg word)) = change_tells now 5 (pwm_set s reg word).mask (mask_of (pwm_set s reg word)) _ refl

@@ -1,0 +1,6 @@
+pub mod Answers
+pub mod Credits
+pub mod Delays
+pub mod Events
+pub mod Holds
+pub mod Runs

@@ -1,0 +1,53 @@
+-- Where the sixteen credits of a front are, and the answers that it waits for.
+use Rattle.std.specs.Prelude.{◌≡◌, ◌≤◌, ℕ, ◌+◌, List, [], ◌∷◌, ◌++◌, Option, length, true, false}
+use Rattle.chip_base.specs.declared.message.Down.{Down}
+use Rattle.chip_base.specs.declared.message.Up.{Up}
+use Rattle.chip_base.specs.Messages.{data_in, credit_in, reset_in, done_in}
+use Rattle.unit_fronts.specs.Port.{Port, is_open_of}
+use Rattle.soc_words.specs.Line.{first_of}
+use Rattle.uart_lane.specs.Counts.{bytes_in, bytes_out}
+use Rattle.uart_lane.specs.Cycle.{unit_cycle}
+use Rattle.uart_lane.specs.State.{State as Uart}
+use Rattle.chip_net.specs.Chip.{State}
+
+-- how often something stands on a line, all places together
+abbrev pub count_on : {M : Type 0} → (Option M → ℕ) → List (Option M) → ℕ
+count_on count [] = 0
+count_on count (m ∷ rest) = count m + count_on count rest
+
+-- no message of the second kind stands behind one of the first kind: none was sent after it
+abbrev pub NoneBehind : {M : Type 0} → (Option M → ℕ) → (Option M → ℕ) → List (Option M) → Type 0
+NoneBehind first second [] = Unit {0}
+NoneBehind first second (m ∷ rest) = (first m ≡ 1 → count_on second rest ≡ 0) × NoneBehind first second rest
+
+-- the answers that a front waits for are as many as the Resets on its line down and their answers on its line up
+abbrev pub AnswersComing : ℕ → List (Option Down) → List (Option Up) → Type 0
+AnswersComing owed downs ups = owed ≡ count_on reset_in downs + count_on done_in ups
+
+-- the credits of a front, the entries that it sent and its unit holds, and the Resets
+pub record HasSixteen (front : Port) (downs : List (Option Down)) (entries : ℕ) (ups : List (Option Up)) : Type 0 where
+  -- all credits of an open front are in it, or with an entry on its way down or in the unit, or on their way up
+  pub sum : is_open_of front ≡ true → front.credits + count_on data_in downs + entries + count_on credit_in ups ≡ 16
+  -- a closed front has all sixteen, whatever is still on its way
+  pub all : is_open_of front ≡ false → front.credits ≡ 16
+  -- the unit has room for each entry that comes
+  pub room : count_on data_in downs + entries + count_on credit_in ups ≤ 16
+  pub answers : AnswersComing front.owed downs ups
+  pub behind_reset : NoneBehind reset_in data_in downs
+  pub behind_answer : NoneBehind done_in credit_in ups
+  -- behind an answer on its way up, all is as after a reset
+  pub answered : 1 ≤ count_on done_in ups → (entries ≡ 0) × (count_on data_in downs ≡ 0)
+
+-- so it is for each unit; those of gpio and pwm take no entries, and only Resets are counted
+pub record CreditsHold (c : State) : Type 0 where
+  pub uart0 : HasSixteen c.hub.fronts.uart0 c.down_uart0 (length c.uart0.fifo) c.up_uart0
+  pub gpio : AnswersComing c.hub.fronts.gpio.owed c.down_gpio c.up_gpio
+  pub pwm : AnswersComing c.hub.fronts.pwm.owed c.down_pwm c.up_pwm
+
+-- in a cycle in which no Reset arrives, the bytes that waited and came are those that left and wait, in the same order
+abbrev pub UartLosesNone : Uart → ℕ → Option Down → Type 0
+UartLosesNone s now down = reset_in down ≡ 0 → s.fifo ++ bytes_in down ≡ bytes_out (unit_cycle s now down).event ++ (unit_cycle s now down).unit.fifo
+
+-- no byte is lost in the cycle that comes next
+pub record LosesNone (c : State) : Type 0 where
+  pub uart0 : UartLosesNone c.uart0 c.cycle (first_of c.down_uart0)

@@ -1,0 +1,3 @@
+pub mod Chip
+pub mod Credits
+pub mod Order

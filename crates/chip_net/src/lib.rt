@@ -1,0 +1,8 @@
+//! The chip: the hub and its units, joined by links of a fixed delay.
+#![tactic(auto)]
+
+pub mod chip;
+#[cfg(test)]
+mod tests;
+
+pub use chip::Chip;

@@ -1,0 +1,71 @@
+//! A program that sends a byte by uart0, with the cycles that the delay and the frame of ten bits give.
+ghost use Rattle.std.specs.Prelude.{◌≡◌, IfOk};
+
+use crate::Chip;
+use chip_base::{
+    Boot, BootView, Bytes, Event, EventKind, Groups, PhaseWord, Pins, Script, Setup, Steps0,
+};
+use std::test::Fail;
+
+/// lui x1, 0xfff50; addi x2, x0, 1; sw x2, 0(x1); addi x2, x0, 0x41; sw x2, 4(x1); jal x0, 0
+const PROGRAM: [u8; 24] = [
+    0xb7, 0x00, 0xf5, 0xff, 0x13, 0x01, 0x10, 0x00, 0x23, 0xa0, 0x20, 0x00, 0x13, 0x01, 0x10, 0x04,
+    0x23, 0xa2, 0x20, 0x00, 0x6f, 0x00, 0x00, 0x00,
+];
+
+/// The chip of the standard settings, with the program from address 0 on.
+fn chip(rt: HostRuntime) -> Result<Chip, Fail>
+    ensures { IfOk result (λ chip. chip.cycle ≡ 0) }
+{
+    let alloc = rt.alloc();
+    let image = Vec::from_slice(alloc, &PROGRAM)?;
+    let script = Script {
+        pins: Pins::from_vec(Vec::new(alloc)).unwrap(),
+        uart0: Steps0::from_vec(Vec::new(alloc)).unwrap(),
+        uart1: Steps0::from_vec(Vec::new(alloc)).unwrap(),
+    };
+    let groups = Groups { of: [0; 8] };
+    Ok(Chip::new(alloc, &Setup::standard(), Boot::Raw, image, script, &groups)?)
+}
+
+/// The byte is stored in cycle 11, comes to the unit in cycle 43, and has left after the twenty cycles of its frame.
+#[test]
+fn byte_in_time(rt: HostRuntime) -> Result<(), Fail> {
+    let mut chip = chip(rt)?;
+    let wanted = Event {
+        cycle: 62,
+        unit: 1,
+        kind: EventKind::Tx,
+        value: 0x41,
+    };
+    chip.run(62)?;
+    assert!(rt; chip.events().is_empty());
+    chip.run(1)?;
+    assert_eq!(rt; chip.events(), [wanted].as_slice());
+    assert_eq!(rt; chip.now(), 63);
+    chip.run(1)?;
+    assert!(rt; chip.events().is_empty());
+    Ok(())
+}
+
+#[test]
+fn views(rt: HostRuntime) -> Result<(), Fail> {
+    let mut chip = chip(rt)?;
+    chip.run(63)?;
+    assert_eq!(rt; chip.events().len(), 1);
+    let hart = chip.hart(0);
+    assert_eq!(rt; hart.phase, PhaseWord::Run);
+    assert_eq!(rt; hart.pc, 0x14);
+    assert_eq!(rt; hart.retired, 13);
+    assert_eq!(rt; hart.regs[1], 0xfff5_0000);
+    assert_eq!(rt; hart.regs[2], 0x41);
+    assert_eq!(rt; chip.hart(1).phase, PhaseWord::Parked);
+    assert_eq!(rt; chip.boot(), BootView::Raw);
+    assert_eq!(rt; chip.word(0), Some(0xfff5_00b7));
+    assert_eq!(rt; chip.word(2), None);
+    assert_eq!(rt; chip.imem_size(), 65_536);
+    assert_eq!(rt; chip.dmem_size(), 65_536);
+    // mhartid
+    assert_eq!(rt; chip.csr(1, 0xf14), Some(1));
+    Ok(())
+}

@@ -1,0 +1,7 @@
+pub mod Access
+pub mod Clint
+pub mod Core
+pub mod Execute
+pub mod Fetch
+pub mod Mailbox
+pub mod Turn

@@ -1,0 +1,50 @@
+//! The mailbox that starts core 1.
+ghost use Rattle.std.specs.Prelude.{◌≡◌, IsTrue};
+ghost use Rattle.core_pair.specs.Clint.{is_among};
+ghost use Rattle.core_pair.specs.Mailbox.{mailbox_offsets, mailbox_stored, mailbox_word, reset_mailbox};
+
+use std::marker::Model;
+
+/// Two words: where core 1 begins, at offset 0, and what its x2 holds then, at offset 4.
+#[derive(Debug, Drop)]
+pub struct Mailbox {
+    pc: u32,
+    sp: u32,
+}
+
+impl Model for Mailbox {
+    ghost use Rattle.core_pair.specs.Mailbox.{MailboxState};
+
+    ghost Value = { MailboxState };
+
+    ghost view = { λ m. record { pc = m.pc; sp = m.sp } };
+}
+
+impl Mailbox {
+    /// The mailbox at reset: both words are 0.
+    pub fn new() -> Mailbox
+        ensures { result ≡ reset_mailbox }
+    {
+        Mailbox { pc: 0, sp: 0 }
+    }
+
+    /// The word at an offset, in bytes.
+    pub fn load(&self, offset: u32) -> u32
+        requires { IsTrue (is_among mailbox_offsets offset) }
+        ensures { result ≡ mailbox_word self.now offset }
+    {
+        if offset == 0 { self.pc } else { self.sp }
+    }
+
+    /// Keeps a word at an offset, in bytes.
+    pub fn store(&mut self, offset: u32, word: u32)
+        requires { IsTrue (is_among mailbox_offsets offset) }
+        ensures { self.new ≡ mailbox_stored self.old offset word }
+    {
+        if offset == 0 {
+            self.pc = word;
+        } else {
+            self.sp = word;
+        }
+    }
+}
