@@ -1,0 +1,16 @@
+pub mod ChipAnswers
+pub mod ChipRound
+pub mod KeySteps
+pub mod Lists
+pub mod NumberRound
+pub mod PinRound
+pub mod PrintedLines
+pub mod QuotedRound
+pub mod ReadSteps
+pub mod ScriptRound
+pub mod Shown
+pub mod SmallBytes
+pub mod StepRound
+pub mod Valid
+pub mod ChipBack
+pub mod ChipUtf8

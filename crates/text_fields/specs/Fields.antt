@@ -1,0 +1,32 @@
+-- The fields of a line, which blanks separate.
+use Rattle.std.specs.Prelude.{ℕ, ◌==◌, ◌||◌, Bool, true, not, List, [], ◌∷◌, take, drop}
+use Rattle.std.specs.List.{prefix_len}
+
+-- a text as its bytes
+abbrev pub Text : Type 0
+Text = List ℕ
+
+-- a space or a tab
+abbrev pub is_blank : ℕ → Bool
+is_blank b = b == 32 || b == 9
+
+-- a byte of a field
+abbrev pub is_part : ℕ → Bool
+is_part b = not (is_blank b)
+
+-- a field ends here
+abbrev pub ends_field : Text → Bool
+ends_field [] = true
+ends_field (b ∷ more) = is_blank b
+
+-- a text without the blanks at its front
+unfoldable pub skip : Text → Text
+skip text = drop (prefix_len is_blank text) text
+
+-- the field at the front of a text
+unfoldable pub field : Text → Text
+field text = take (prefix_len is_part text) text
+
+-- what follows this field and the blanks after it
+unfoldable pub after : Text → Text
+after text = skip (drop (prefix_len is_part text) text)
