@@ -1,0 +1,9 @@
+//! The words of the command line, and the job that they give.
+#![tactic(auto)]
+
+mod command;
+mod job;
+#[cfg(test)]
+mod tests;
+
+pub use job::{RunJob, read_job};

@@ -1,0 +1,166 @@
+//! Words as they are typed.
+
+use crate::{RunJob, read_job};
+use std::alloc::{AllocError, Global};
+
+/// The words of a line, one blank between each two.
+fn words_of(alloc: Global, line: &str) -> Result<Vec<String>, AllocError> {
+    let mut words = Vec::new(alloc);
+    for word in line.split(' ') {
+        words.push(String::from_str(alloc, word)?)?;
+    }
+    Ok(words)
+}
+
+/// What a job is to hold.
+#[derive(Clone, Copy)]
+struct Wanted<'a> {
+    image: &'a str,
+    cycles: u32,
+    chip: Option<&'a str>,
+    script: Option<&'a str>,
+    groups: [u8; 8],
+}
+
+/// All lanes run together, on the standard chip without a script.
+fn plain<'a>(image: &'a str, cycles: u32) -> Wanted<'a> {
+    Wanted {
+        image,
+        cycles,
+        chip: None,
+        script: None,
+        groups: [0; 8],
+    }
+}
+
+fn is_wanted(job: &RunJob<'_>, wanted: &Wanted<'_>) -> bool {
+    let image = job.image == wanted.image;
+    let cycles = job.cycles == wanted.cycles;
+    let chip = job.chip == wanted.chip;
+    let script = job.script == wanted.script;
+    let groups = job.groups.of == wanted.groups;
+    image && cycles && chip && script && groups
+}
+
+/// Whether the words of a line give this job.
+fn gives(alloc: Global, line: &str, wanted: &Wanted<'_>) -> Result<bool, AllocError> {
+    let words = words_of(alloc, line)?;
+    match read_job(alloc, &words) {
+        Ok(Some(job)) => Ok(is_wanted(&job, wanted)),
+        _ => Ok(false),
+    }
+}
+
+/// Whether the words of a line give no job.
+fn is_refused(alloc: Global, line: &str) -> Result<bool, AllocError> {
+    let words = words_of(alloc, line)?;
+    match read_job(alloc, &words) {
+        Ok(None) => Ok(true),
+        _ => Ok(false),
+    }
+}
+
+#[test]
+fn reads_jobs_of_an_image_and_cycles(rt: HostRuntime) -> Result<(), AllocError> {
+    for (line, image, cycles) in [
+        ("run a.bin 10 --boot raw", "a.bin", 10),
+        ("run --boot raw a.bin 10", "a.bin", 10),
+        ("run a.bin --boot raw 10", "a.bin", 10),
+        ("run a.bin 10 --boot=raw", "a.bin", 10),
+        ("run a.bin 10 --boot raw --groups all", "a.bin", 10),
+        ("run a.bin 0 --boot raw", "a.bin", 0),
+        ("run a.bin 0000000010 --boot raw", "a.bin", 10),
+        ("run a.bin 4294967295 --boot raw", "a.bin", 4_294_967_295),
+        ("run - 10 --boot raw", "-", 10),
+        ("run  10 --boot raw", "", 10),
+        ("run --boot raw -- --a 10", "--a", 10),
+    ] {
+        let wanted = plain(image, cycles);
+        assert!(&rt; gives(rt.alloc(), line, &wanted)?, "{line}");
+    }
+    Ok(())
+}
+
+#[test]
+fn reads_files_and_groups(rt: HostRuntime) -> Result<(), AllocError> {
+    let none: Option<&str> = None;
+    for (line, chip, script, groups) in [
+        (
+            "run --chip c.toml a.bin --script s.txt 10 --boot raw",
+            Some("c.toml"),
+            Some("s.txt"),
+            [0, 0, 0, 0, 0, 0, 0, 0],
+        ),
+        (
+            "run a.bin 10 --boot raw --chip= --script -",
+            Some(""),
+            Some("-"),
+            [0, 0, 0, 0, 0, 0, 0, 0],
+        ),
+        (
+            "run a.bin 10 --boot raw --groups each",
+            none,
+            none,
+            [0, 1, 2, 3, 4, 5, 6, 7],
+        ),
+        (
+            "run a.bin 10 --boot raw --groups=hub,wdt/uart1,uart0,spi/slink,gpio,pwm",
+            none,
+            none,
+            [0, 1, 1, 1, 2, 2, 2, 0],
+        ),
+    ] {
+        let wanted = Wanted {
+            image: "a.bin",
+            cycles: 10,
+            chip,
+            script,
+            groups,
+        };
+        assert!(&rt; gives(rt.alloc(), line, &wanted)?, "{line}");
+    }
+    Ok(())
+}
+
+#[test]
+fn refuses_other_words(rt: HostRuntime) -> Result<(), AllocError> {
+    for line in [
+        "",
+        "run",
+        "run a.bin --boot raw",
+        "run a.bin 10",
+        "run a.bin 10 20 --boot raw",
+        "run a.bin 10 --boot",
+        "run a.bin 10 --boot=",
+        "run a.bin 10 --boot monitor",
+        "run a.bin 10 --boot direct",
+        "run a.bin 10 --boot RAW",
+        "run a.bin 10 --bo raw",
+        "run a.bin 10 --boot raw --boot raw",
+        "run a.bin 10 --boot raw --chip x --chip=y",
+        "run a.bin 10 --boot raw --chip -b",
+        "run a.bin 10 --boot raw --fast",
+        "run a.bin 10 --boot raw --part lop",
+        "run a.bin 10 --boot raw --trace 1",
+        "run a.bin 10 --boot raw --help",
+        "run a.bin 10 --boot raw -h",
+        "run a.bin 10 --boot raw --version",
+        "run a.bin 10 --boot raw --groups hub,hub",
+        "run a.bin 10 --boot raw --groups=",
+        "run a.bin 10 -- --boot raw",
+        "run a.bin  --boot raw",
+        "run a.bin -5 --boot raw",
+        "run a.bin +5 --boot raw",
+        "run a.bin 00000000010 --boot raw",
+        "run a.bin 4294967296 --boot raw",
+        "help",
+        "--boot raw run a.bin 10",
+        "image a.bin b.bin",
+        "check a.bin",
+        "debug a.bin 10 c.txt --boot raw",
+        "demo 1",
+    ] {
+        assert!(&rt; is_refused(rt.alloc(), line)?, "{line}");
+    }
+    Ok(())
+}
