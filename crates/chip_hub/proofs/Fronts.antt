@@ -22,7 +22,7 @@ use Rattle.unit_fronts.specs.GpioFront.{PinRegisters, answered as pins_answered,
 use Rattle.unit_fronts.specs.PwmFront.{DutyRegisters, arrived as duty_arrived, store_sent as duty_sent, stored as duty_stored}
 use Rattle.unit_fronts.specs.UartFront.{loaded, stored, store_sent}
 use Rattle.unit_fronts.proofs.Counts.{loads, spends}
-use Rattle.chip_hub.specs.Access.{accessed, accessed_by, in_clint, in_device, in_dma, in_gpio, in_mailbox, in_memory, in_pwm, in_region, in_sysinfo, in_uart0, memory_stored, silent}
+use Rattle.chip_hub.specs.Access.{accessed, accessed_by, in_clint, in_device, in_dma, in_gpio, in_mailbox, in_memory, in_pwm, in_region, in_sysinfo, in_uart0, in_uart1, memory_stored, silent}
 use Rattle.chip_hub.specs.Cycle.{heard, heard_by_gpio, heard_by_pwm, hub_cycle, served, served0, served1, served2, served_to, timed, turn0, turn1, wants_of}
 use Rattle.chip_hub.specs.State.{Fronts, State}
 
@@ -155,28 +155,72 @@ uart0_register : (s : State) (r : Request) (reg : ℕ) (store : Option ℕ)
 uart0_register s r reg None = uart_load s.fronts.uart0 reg
 uart0_register s r reg (Some value) = uart_store s.fronts.uart0 reg value
 
--- an access to another unit's registers doesn't reach the front of uart0
-past_gpio : (s : State) (r : Request) (reg : ℕ) (store : Option ℕ) → ServesUart0 s.fronts (in_gpio s r reg store).hub.fronts (in_gpio s r reg store).downs
-past_gpio s r reg None = serves_nothing s.fronts.uart0
-past_gpio s r reg (Some value) = serves_nothing s.fronts.uart0
+-- the same of uart1
+abbrev ServesUart1 : Fronts → Fronts → List (Option Down) → Type 0
+ServesUart1 old new downs = ServesPort old.uart1 (get_or downs 1 None) new.uart1
 
-past_pwm : (s : State) (r : Request) (reg : ℕ) (store : Option ℕ) → ServesUart0 s.fronts (in_pwm s r reg store).hub.fronts (in_pwm s r reg store).downs
-past_pwm s r reg None = serves_nothing s.fronts.uart0
-past_pwm s r reg (Some value) = serves_nothing s.fronts.uart0
+uart1_register : (s : State) (r : Request) (reg : ℕ) (store : Option ℕ)
+    → ServesUart1 s.fronts (in_uart1 s r reg store).hub.fronts (in_uart1 s r reg store).downs
+uart1_register s r reg None = uart_load s.fronts.uart1 reg
+uart1_register s r reg (Some value) = uart_store s.fronts.uart1 reg value
 
-uart0_device : (s : State) (r : Request) (unit reg : ℕ) (is_uart0 is_gpio is_pwm : Bool) → eqb unit 1 ≡ is_uart0 → eqb unit 4 ≡ is_gpio → eqb unit 5 ≡ is_pwm
+-- an access to another unit's registers doesn't reach these fronts
+uart0_past_uart1 : (s : State) (r : Request) (reg : ℕ) (store : Option ℕ) → ServesUart0 s.fronts (in_uart1 s r reg store).hub.fronts (in_uart1 s r reg store).downs
+uart0_past_uart1 s r reg None = serves_nothing s.fronts.uart0
+uart0_past_uart1 s r reg (Some value) = serves_nothing s.fronts.uart0
+
+uart0_past_gpio : (s : State) (r : Request) (reg : ℕ) (store : Option ℕ) → ServesUart0 s.fronts (in_gpio s r reg store).hub.fronts (in_gpio s r reg store).downs
+uart0_past_gpio s r reg None = serves_nothing s.fronts.uart0
+uart0_past_gpio s r reg (Some value) = serves_nothing s.fronts.uart0
+
+uart0_past_pwm : (s : State) (r : Request) (reg : ℕ) (store : Option ℕ) → ServesUart0 s.fronts (in_pwm s r reg store).hub.fronts (in_pwm s r reg store).downs
+uart0_past_pwm s r reg None = serves_nothing s.fronts.uart0
+uart0_past_pwm s r reg (Some value) = serves_nothing s.fronts.uart0
+
+uart0_device : (s : State) (r : Request) (unit reg : ℕ) (is_uart0 is_uart1 is_gpio is_pwm : Bool)
+    → eqb unit 1 ≡ is_uart0 → eqb unit 2 ≡ is_uart1 → eqb unit 4 ≡ is_gpio → eqb unit 5 ≡ is_pwm
     → ServesUart0 s.fronts (in_device s r unit reg).hub.fronts (in_device s r unit reg).downs
-uart0_device s r unit reg true b c d e f = rw d (uart0_register s r reg r.store)
-uart0_device s r unit reg false true c d e f = rw (d, e) (past_gpio s r reg r.store)
-uart0_device s r unit reg false false true d e f = rw (d, e, f) (past_pwm s r reg r.store)
-uart0_device s r unit reg false false false d e f = rw (d, e, f) (serves_nothing s.fronts.uart0)
+uart0_device s r unit reg true b c d e f g h = rw e (uart0_register s r reg r.store)
+uart0_device s r unit reg false true c d e f g h = rw (e, f) (uart0_past_uart1 s r reg r.store)
+uart0_device s r unit reg false false true d e f g h = rw (e, f, g) (uart0_past_gpio s r reg r.store)
+uart0_device s r unit reg false false false true e f g h = rw (e, f, g, h) (uart0_past_pwm s r reg r.store)
+uart0_device s r unit reg false false false false e f g h = rw (e, f, g, h) (serves_nothing s.fronts.uart0)
+
+uart1_past_uart0 : (s : State) (r : Request) (reg : ℕ) (store : Option ℕ) → ServesUart1 s.fronts (in_uart0 s r reg store).hub.fronts (in_uart0 s r reg store).downs
+uart1_past_uart0 s r reg None = serves_nothing s.fronts.uart1
+uart1_past_uart0 s r reg (Some value) = serves_nothing s.fronts.uart1
+
+uart1_past_gpio : (s : State) (r : Request) (reg : ℕ) (store : Option ℕ) → ServesUart1 s.fronts (in_gpio s r reg store).hub.fronts (in_gpio s r reg store).downs
+uart1_past_gpio s r reg None = serves_nothing s.fronts.uart1
+uart1_past_gpio s r reg (Some value) = serves_nothing s.fronts.uart1
+
+uart1_past_pwm : (s : State) (r : Request) (reg : ℕ) (store : Option ℕ) → ServesUart1 s.fronts (in_pwm s r reg store).hub.fronts (in_pwm s r reg store).downs
+uart1_past_pwm s r reg None = serves_nothing s.fronts.uart1
+uart1_past_pwm s r reg (Some value) = serves_nothing s.fronts.uart1
+
+uart1_device : (s : State) (r : Request) (unit reg : ℕ) (is_uart0 is_uart1 is_gpio is_pwm : Bool)
+    → eqb unit 1 ≡ is_uart0 → eqb unit 2 ≡ is_uart1 → eqb unit 4 ≡ is_gpio → eqb unit 5 ≡ is_pwm
+    → ServesUart1 s.fronts (in_device s r unit reg).hub.fronts (in_device s r unit reg).downs
+uart1_device s r unit reg true b c d e f g h = rw e (uart1_past_uart0 s r reg r.store)
+uart1_device s r unit reg false true c d e f g h = rw (e, f) (uart1_register s r reg r.store)
+uart1_device s r unit reg false false true d e f g h = rw (e, f, g) (uart1_past_gpio s r reg r.store)
+uart1_device s r unit reg false false false true e f g h = rw (e, f, g, h) (uart1_past_pwm s r reg r.store)
+uart1_device s r unit reg false false false false e f g h = rw (e, f, g, h) (serves_nothing s.fronts.uart1)
 
 -- what a cycle does to the front of uart0, after the arrivals
 pub serves_uart0 : (s : State) (now : ℕ) (ups : List (Option Up))
     → ServesPort (heard s ups).fronts.uart0 (get_or (hub_cycle s now ups).downs 0 None) (hub_cycle s now ups).hub.fronts.uart0
 serves_uart0 = cycle_fronts ServesUart0 (record {
   quiet = λ f. serves_nothing f.uart0;
-  device = λ s r unit reg. uart0_device s r unit reg _ _ _ refl refl refl;
+  device = λ s r unit reg. uart0_device s r unit reg _ _ _ _ refl refl refl refl;
+})
+
+-- what a cycle does to the front of uart1, after the arrivals
+pub serves_uart1 : (s : State) (now : ℕ) (ups : List (Option Up))
+    → ServesPort (heard s ups).fronts.uart1 (get_or (hub_cycle s now ups).downs 1 None) (hub_cycle s now ups).hub.fronts.uart1
+serves_uart1 = cycle_fronts ServesUart1 (record {
+  quiet = λ f. serves_nothing f.uart1;
+  device = λ s r unit reg. uart1_device s r unit reg _ _ _ _ refl refl refl refl;
 })
 
 -- what an access does to the answers that a front without entries waits for: nothing, and it sends no Reset
@@ -211,57 +255,69 @@ pwm_store p reg word false b e f = rw e record { owed = refl; no_reset = refl }
 pwm_store p reg word true true e f = record { owed = rw (e, f) refl; no_reset = rw e refl }
 pwm_store p reg word true false e f = record { owed = rw (e, f) refl; no_reset = rw e refl }
 
-gpio_of_uart0 : (s : State) (r : Request) (reg : ℕ) (store : Option ℕ) → ServesGpio s.fronts (in_uart0 s r reg store).hub.fronts (in_uart0 s r reg store).downs
-gpio_of_uart0 s r reg None = no_answers s.fronts.gpio.owed
-gpio_of_uart0 s r reg (Some value) = no_answers s.fronts.gpio.owed
-
 gpio_register : (s : State) (r : Request) (reg : ℕ) (store : Option ℕ) → ServesGpio s.fronts (in_gpio s r reg store).hub.fronts (in_gpio s r reg store).downs
 gpio_register s r reg None = no_answers s.fronts.gpio.owed
 gpio_register s r reg (Some value) = gpio_store s.fronts.gpio reg value _ _ refl refl
-
-gpio_of_pwm : (s : State) (r : Request) (reg : ℕ) (store : Option ℕ) → ServesGpio s.fronts (in_pwm s r reg store).hub.fronts (in_pwm s r reg store).downs
-gpio_of_pwm s r reg None = no_answers s.fronts.gpio.owed
-gpio_of_pwm s r reg (Some value) = no_answers s.fronts.gpio.owed
-
-gpio_device : (s : State) (r : Request) (unit reg : ℕ) (is_uart0 is_gpio is_pwm : Bool) → eqb unit 1 ≡ is_uart0 → eqb unit 4 ≡ is_gpio → eqb unit 5 ≡ is_pwm
-    → ServesGpio s.fronts (in_device s r unit reg).hub.fronts (in_device s r unit reg).downs
-gpio_device s r unit reg true b c d e f = rw d (gpio_of_uart0 s r reg r.store)
-gpio_device s r unit reg false true c d e f = rw (d, e) (gpio_register s r reg r.store)
-gpio_device s r unit reg false false true d e f = rw (d, e, f) (gpio_of_pwm s r reg r.store)
-gpio_device s r unit reg false false false d e f = rw (d, e, f) (no_answers s.fronts.gpio.owed)
-
-pwm_of_uart0 : (s : State) (r : Request) (reg : ℕ) (store : Option ℕ) → ServesPwm s.fronts (in_uart0 s r reg store).hub.fronts (in_uart0 s r reg store).downs
-pwm_of_uart0 s r reg None = no_answers s.fronts.pwm.owed
-pwm_of_uart0 s r reg (Some value) = no_answers s.fronts.pwm.owed
-
-pwm_of_gpio : (s : State) (r : Request) (reg : ℕ) (store : Option ℕ) → ServesPwm s.fronts (in_gpio s r reg store).hub.fronts (in_gpio s r reg store).downs
-pwm_of_gpio s r reg None = no_answers s.fronts.pwm.owed
-pwm_of_gpio s r reg (Some value) = no_answers s.fronts.pwm.owed
 
 pwm_register : (s : State) (r : Request) (reg : ℕ) (store : Option ℕ) → ServesPwm s.fronts (in_pwm s r reg store).hub.fronts (in_pwm s r reg store).downs
 pwm_register s r reg None = no_answers s.fronts.pwm.owed
 pwm_register s r reg (Some value) = pwm_store s.fronts.pwm reg value _ _ refl refl
 
-pwm_device : (s : State) (r : Request) (unit reg : ℕ) (is_uart0 is_gpio is_pwm : Bool) → eqb unit 1 ≡ is_uart0 → eqb unit 4 ≡ is_gpio → eqb unit 5 ≡ is_pwm
+gpio_past_uart0 : (s : State) (r : Request) (reg : ℕ) (store : Option ℕ) → ServesGpio s.fronts (in_uart0 s r reg store).hub.fronts (in_uart0 s r reg store).downs
+gpio_past_uart0 s r reg None = no_answers s.fronts.gpio.owed
+gpio_past_uart0 s r reg (Some value) = no_answers s.fronts.gpio.owed
+
+gpio_past_uart1 : (s : State) (r : Request) (reg : ℕ) (store : Option ℕ) → ServesGpio s.fronts (in_uart1 s r reg store).hub.fronts (in_uart1 s r reg store).downs
+gpio_past_uart1 s r reg None = no_answers s.fronts.gpio.owed
+gpio_past_uart1 s r reg (Some value) = no_answers s.fronts.gpio.owed
+
+gpio_past_pwm : (s : State) (r : Request) (reg : ℕ) (store : Option ℕ) → ServesGpio s.fronts (in_pwm s r reg store).hub.fronts (in_pwm s r reg store).downs
+gpio_past_pwm s r reg None = no_answers s.fronts.gpio.owed
+gpio_past_pwm s r reg (Some value) = no_answers s.fronts.gpio.owed
+
+gpio_device : (s : State) (r : Request) (unit reg : ℕ) (is_uart0 is_uart1 is_gpio is_pwm : Bool)
+    → eqb unit 1 ≡ is_uart0 → eqb unit 2 ≡ is_uart1 → eqb unit 4 ≡ is_gpio → eqb unit 5 ≡ is_pwm
+    → ServesGpio s.fronts (in_device s r unit reg).hub.fronts (in_device s r unit reg).downs
+gpio_device s r unit reg true b c d e f g h = rw e (gpio_past_uart0 s r reg r.store)
+gpio_device s r unit reg false true c d e f g h = rw (e, f) (gpio_past_uart1 s r reg r.store)
+gpio_device s r unit reg false false true d e f g h = rw (e, f, g) (gpio_register s r reg r.store)
+gpio_device s r unit reg false false false true e f g h = rw (e, f, g, h) (gpio_past_pwm s r reg r.store)
+gpio_device s r unit reg false false false false e f g h = rw (e, f, g, h) (no_answers s.fronts.gpio.owed)
+
+pwm_past_uart0 : (s : State) (r : Request) (reg : ℕ) (store : Option ℕ) → ServesPwm s.fronts (in_uart0 s r reg store).hub.fronts (in_uart0 s r reg store).downs
+pwm_past_uart0 s r reg None = no_answers s.fronts.pwm.owed
+pwm_past_uart0 s r reg (Some value) = no_answers s.fronts.pwm.owed
+
+pwm_past_uart1 : (s : State) (r : Request) (reg : ℕ) (store : Option ℕ) → ServesPwm s.fronts (in_uart1 s r reg store).hub.fronts (in_uart1 s r reg store).downs
+pwm_past_uart1 s r reg None = no_answers s.fronts.pwm.owed
+pwm_past_uart1 s r reg (Some value) = no_answers s.fronts.pwm.owed
+
+pwm_past_gpio : (s : State) (r : Request) (reg : ℕ) (store : Option ℕ) → ServesPwm s.fronts (in_gpio s r reg store).hub.fronts (in_gpio s r reg store).downs
+pwm_past_gpio s r reg None = no_answers s.fronts.pwm.owed
+pwm_past_gpio s r reg (Some value) = no_answers s.fronts.pwm.owed
+
+pwm_device : (s : State) (r : Request) (unit reg : ℕ) (is_uart0 is_uart1 is_gpio is_pwm : Bool)
+    → eqb unit 1 ≡ is_uart0 → eqb unit 2 ≡ is_uart1 → eqb unit 4 ≡ is_gpio → eqb unit 5 ≡ is_pwm
     → ServesPwm s.fronts (in_device s r unit reg).hub.fronts (in_device s r unit reg).downs
-pwm_device s r unit reg true b c d e f = rw d (pwm_of_uart0 s r reg r.store)
-pwm_device s r unit reg false true c d e f = rw (d, e) (pwm_of_gpio s r reg r.store)
-pwm_device s r unit reg false false true d e f = rw (d, e, f) (pwm_register s r reg r.store)
-pwm_device s r unit reg false false false d e f = rw (d, e, f) (no_answers s.fronts.pwm.owed)
+pwm_device s r unit reg true b c d e f g h = rw e (pwm_past_uart0 s r reg r.store)
+pwm_device s r unit reg false true c d e f g h = rw (e, f) (pwm_past_uart1 s r reg r.store)
+pwm_device s r unit reg false false true d e f g h = rw (e, f, g) (pwm_past_gpio s r reg r.store)
+pwm_device s r unit reg false false false true e f g h = rw (e, f, g, h) (pwm_register s r reg r.store)
+pwm_device s r unit reg false false false false e f g h = rw (e, f, g, h) (no_answers s.fronts.pwm.owed)
 
 -- what a cycle does to the fronts of gpio and pwm, after the arrivals
 pub serves_gpio : (s : State) (now : ℕ) (ups : List (Option Up))
     → ServesAnswers (heard s ups).fronts.gpio.owed (get_or (hub_cycle s now ups).downs 3 None) (hub_cycle s now ups).hub.fronts.gpio.owed
 serves_gpio = cycle_fronts ServesGpio (record {
   quiet = λ f. no_answers f.gpio.owed;
-  device = λ s r unit reg. gpio_device s r unit reg _ _ _ refl refl refl;
+  device = λ s r unit reg. gpio_device s r unit reg _ _ _ _ refl refl refl refl;
 })
 
 pub serves_pwm : (s : State) (now : ℕ) (ups : List (Option Up))
     → ServesAnswers (heard s ups).fronts.pwm.owed (get_or (hub_cycle s now ups).downs 4 None) (hub_cycle s now ups).hub.fronts.pwm.owed
 serves_pwm = cycle_fronts ServesPwm (record {
   quiet = λ f. no_answers f.pwm.owed;
-  device = λ s r unit reg. pwm_device s r unit reg _ _ _ refl refl refl;
+  device = λ s r unit reg. pwm_device s r unit reg _ _ _ _ refl refl refl refl;
 })
 
 -- what an arrival does to the answers that a front waits for

@@ -70,7 +70,7 @@ in_mailbox s r (Some value) = done (record s { mailbox = mailbox_stored s.mailbo
 
 -- OPEN: the units' numbers are 1 to 7, and a unit that isn't built counts as open
 abbrev pub open_word : Fronts → ℕ
-open_word f = bit_if 1 (is_open_at f.uart0.owed) + bit_if 4 (is_open_at f.gpio.owed) + bit_if 5 (is_open_at f.pwm.owed) + 0xcc
+open_word f = bit_if 1 (is_open_at f.uart0.owed) + bit_if 2 (is_open_at f.uart1.owed) + bit_if 4 (is_open_at f.gpio.owed) + bit_if 5 (is_open_at f.pwm.owed) + 0xc8
 
 -- the registers that tell the settings: CLK, IMEM, DMEM and OPEN
 abbrev pub sysinfo_word : State → ℕ → ℕ
@@ -99,6 +99,20 @@ in_uart0 s r reg (Some value) = done
     (record s { fronts = record s.fronts { uart0 = stored s.fronts.uart0 reg value } })
     (to_uart0 (store_sent s.fronts.uart0 reg value))
 
+-- the same for uart1, whose messages go to unit 2
+abbrev pub to_uart1 : Option Down → List (Option Down)
+to_uart1 down = None ∷ down ∷ None ∷ None ∷ None ∷ None ∷ None ∷ []
+
+abbrev pub in_uart1 : State → Request → ℕ → Option ℕ → Accessed
+in_uart1 s r reg None = record {
+  hub = record s { fronts = record s.fronts { uart1 = loaded s.fronts.uart1 reg } };
+  answer = Ok (part_of_word r (load_word s.fronts.uart1 reg));
+  downs = silent;
+}
+in_uart1 s r reg (Some value) = done
+    (record s { fronts = record s.fronts { uart1 = stored s.fronts.uart1 reg value } })
+    (to_uart1 (store_sent s.fronts.uart1 reg value))
+
 -- the message of gpio's front goes to unit 4, and of pwm's to unit 5
 abbrev pub to_gpio : Option Down → List (Option Down)
 to_gpio down = None ∷ None ∷ None ∷ down ∷ None ∷ None ∷ None ∷ []
@@ -122,6 +136,7 @@ in_pwm s r reg (Some value) = done
 abbrev pub in_device : State → Request → ℕ → ℕ → Accessed
 in_device s r unit reg =
     if unit == 1 then in_uart0 s r reg r.store
+    else if unit == 2 then in_uart1 s r reg r.store
     else if unit == 4 then in_gpio s r reg r.store
     else if unit == 5 then in_pwm s r reg r.store
     else unchanged s (Err Unmapped)

@@ -46,6 +46,7 @@ abbrev pub heard : State → List (Option Up) → State
 heard s ups = record s {
   fronts = record {
     uart0 = heard_by s.fronts.uart0 (get_or ups 0 None);
+    uart1 = heard_by s.fronts.uart1 (get_or ups 1 None);
     gpio = heard_by_gpio s.fronts.gpio (get_or ups 3 None);
     pwm = heard_by_pwm s.fronts.pwm (get_or ups 4 None);
   };
@@ -128,7 +129,7 @@ start v image = record {
   dma = reset_copier;
   clint = reset_clint;
   mailbox = reset_mailbox;
-  fronts = record { uart0 = reset_owing 0; gpio = pins_reset 0; pwm = duty_reset 0 };
+  fronts = record { uart0 = reset_owing 0; uart1 = reset_owing 0; gpio = pins_reset 0; pwm = duty_reset 0 };
 }
 
 abbrev pub loaded_word : Result ℕ BusFault → Option ℕ

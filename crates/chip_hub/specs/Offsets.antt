@@ -10,6 +10,7 @@ use Rattle.soc_bus.specs.declared.access.Region.TheVariants.{Clint, Mailbox, Dma
 abbrev pub unit_fits : ℕ → ℕ → Bool
 unit_fits unit reg =
     if unit == 1 then (reg == 0) || (reg == 4)
+    else if unit == 2 then (reg == 0) || (reg == 4)
     else if unit == 4 then (reg == 0) || (reg == 4) || (reg == 8) || (reg == 12)
     else if unit == 5 then (reg == 0) || (reg == 4) || (reg == 8) || (reg == 12) || (reg == 16)
     else true

@@ -14,6 +14,7 @@ use Rattle.unit_fronts.specs.PwmFront.{DutyRegisters}
 -- the fronts of the units that are built
 pub record Fronts : Type 0 where
   pub uart0 : Port
+  pub uart1 : Port
   pub gpio : PinRegisters
   pub pwm : DutyRegisters
 

@@ -6,7 +6,7 @@ ghost use Rattle.dma_unit.specs.Copier.{is_busy};
 ghost use Rattle.soc_bus.specs.Map.{admitted};
 ghost use Rattle.chip_hub.specs.Offsets.{dma_fits, fits_at, unit_fits};
 ghost use Rattle.chip_hub.specs.Access.{offset_in, open_word, silent};
-ghost use Rattle.chip_hub.specs.Access.{accessed, in_clint, in_device, in_dma, in_gpio, in_mailbox, in_memory, in_pwm, in_region, in_sysinfo, in_uart0, sysinfo_word};
+ghost use Rattle.chip_hub.specs.Access.{accessed, in_clint, in_device, in_dma, in_gpio, in_mailbox, in_memory, in_pwm, in_region, in_sysinfo, in_uart0, in_uart1, sysinfo_word};
 
 use crate::hub::Hub;
 use crate::parts::{bit_if, offset_in, part_of_word};
@@ -125,9 +125,10 @@ impl Hub {
         ensures { result ≡ open_word self.now.fronts }
     {
         bit_if(1, self.uart0.is_open())
+            + bit_if(2, self.uart1.is_open())
             + bit_if(4, self.gpio.is_open())
             + bit_if(5, self.pwm.is_open())
-            + 0xcc
+            + 0xc8
     }
 
     /// The word of a register that tells the settings.
@@ -162,6 +163,20 @@ impl Hub {
             Some(value) => {
                 let down = self.uart0.store(reg, value);
                 stored([down, None, None, None, None, None, None])
+            }
+        }
+    }
+
+    fn access_uart1(&mut self, request: &Request, reg: u8) -> Access
+        requires { (reg ≡ 0) ⊎ (reg ≡ 4) }
+        ensures step { record { hub = self.new; answer = result.answer; downs = result.downs } ≡ in_uart1 self.old request.now reg request.now.store }
+        ensures dma { self.new.dma ≡ self.old.dma }
+    {
+        match request.store {
+            None => loaded(part_of_word(request, self.uart1.load(reg))),
+            Some(value) => {
+                let down = self.uart1.store(reg, value);
+                stored([None, down, None, None, None, None, None])
             }
         }
     }
@@ -201,6 +216,7 @@ impl Hub {
     {
         match unit {
             1 => self.access_uart0(request, reg),
+            2 => self.access_uart1(request, reg),
             4 => self.access_gpio(request, reg),
             5 => self.access_pwm(request, reg),
             _ => refused(BusFault::Unmapped),

@@ -21,6 +21,9 @@ impl Hub {
         if let Some(up) = ups[0] {
             self.uart0.arrive(up);
         }
+        if let Some(up) = ups[1] {
+            self.uart1.arrive(up);
+        }
         if let Some(up) = ups[3] {
             self.gpio.arrive(up);
         }
@@ -34,7 +37,10 @@ impl Hub {
         ensures value { result ≡ fast_lines self.now }
         ensures below { result + 2 ^ 8 ≤ 2 ^ 32 }
     {
-        bit_if(16, self.dma.line()) + bit_if(17, self.uart0.line()) + bit_if(20, self.gpio.line())
+        bit_if(16, self.dma.line())
+            + bit_if(17, self.uart0.line())
+            + bit_if(18, self.uart1.line())
+            + bit_if(20, self.gpio.line())
     }
 
     /// What a read of mip gives to a hart.

@@ -26,6 +26,7 @@ pub struct Hub {
     pub(crate) clint: Clint,
     pub(crate) mailbox: Mailbox,
     pub(crate) uart0: UartFront,
+    pub(crate) uart1: UartFront,
     pub(crate) gpio: GpioFront,
     pub(crate) pwm: PwmFront,
 }
@@ -44,7 +45,7 @@ impl Model for Hub {
       dma = h.dma;
       clint = h.clint;
       mailbox = h.mailbox;
-      fronts = record { uart0 = h.uart0; gpio = h.gpio; pwm = h.pwm };
+      fronts = record { uart0 = h.uart0; uart1 = h.uart1; gpio = h.gpio; pwm = h.pwm };
     } };
 }
 
@@ -78,6 +79,7 @@ impl Hub {
             clint: Clint::new(),
             mailbox: Mailbox::new(),
             uart0: UartFront::new(),
+            uart1: UartFront::new(),
             gpio: GpioFront::new(),
             pwm: PwmFront::new(),
         })

@@ -9,7 +9,7 @@ use Rattle.board_units.specs.PwmState.{PwmState}
 use Rattle.chip_base.specs.declared.event.Event.{Event}
 use Rattle.chip_base.specs.declared.message.Down.{Down}
 use Rattle.chip_base.specs.declared.message.Down.TheVariants.{Reset, Set}
-use Rattle.uart_lane.specs.Cycle.{Given, appended, begun, ended, may_begin, sent, set_in, unit_cycle}
+use Rattle.uart_lane.specs.Cycle.{Given, appended, begun, ended, may_begin, received, sent, set_in, unit_cycle}
 use Rattle.uart_lane.specs.State.{State as Uart}
 use Rattle.chip_net.specs.Order.{AreOrdered, AreOrderedBefore, ArePast, Precedes}
 
@@ -114,7 +114,7 @@ begun_number : (s : Uart) → (begun s).number ≡ s.number
 begun_number s = begun_number_by s _ refl
 
 -- a change before the transmitter that keeps the number
-same_number : (s t : Uart) (now : ℕ) → t.number ≡ s.number → TellsOfItself s now (sent (begun t) now)
+same_number : (s t : Uart) (now : ℕ) → t.number ≡ s.number → TellsOfItself s now (received (sent (begun t) now) now)
 same_number s t now e =
     let same : (begun t).number ≡ s.number = begun_number t ∙ e in
     let told : TellsOfItself (begun t) now (sent (begun t) now) = sent_tells (begun t) now in

@@ -7,11 +7,11 @@ use Rattle.chip_base.specs.Ranges.{is_delay}
 use Rattle.chip_base.specs.Settings.{Values, values_of}
 use Rattle.chip_base.specs.declared.message.Down.{Down}
 use Rattle.chip_base.specs.declared.message.Up.{Up}
-use Rattle.chip_base.specs.declared.script.PinStep.{PinStep}
+use Rattle.chip_base.specs.declared.script.Script.{Script}
 use Rattle.chip_base.specs.declared.setup.Setup.{Setup}
 use Rattle.board_units.specs.GpioCycle.{gpio_cycle}
 use Rattle.chip_base.specs.Messages.{credit_in, data_in}
-use Rattle.chip_hub.proofs.Fronts.{gpio_hears, pwm_hears, serves_gpio, serves_pwm, serves_uart0}
+use Rattle.chip_hub.proofs.Fronts.{gpio_hears, pwm_hears, serves_gpio, serves_pwm, serves_uart0, serves_uart1}
 use Rattle.delay_line.specs.Queue.{empty_line}
 use Rattle.soc_words.specs.Line.{first_of, moved}
 use Rattle.uart_lane.specs.Counts.{KeepsCount}
@@ -36,6 +36,7 @@ pub record HasPlaces (downs : List (Option Down)) (ups : List (Option Up)) : Typ
 -- so it is for each unit
 record LinesHavePlaces (c : State) : Type 0 where
   uart0 : HasPlaces c.down_uart0 c.up_uart0
+  uart1 : HasPlaces c.down_uart1 c.up_uart1
   gpio : HasPlaces c.down_gpio c.up_gpio
   pwm : HasPlaces c.down_pwm c.up_pwm
 
@@ -47,6 +48,7 @@ places_tick : (c : State) → LinesHavePlaces c → LinesHavePlaces (tick c)
 unfolding tick
 places_tick c h = record {
   uart0 = places_moved c.down_uart0 c.up_uart0 _ _ h.uart0;
+  uart1 = places_moved c.down_uart1 c.up_uart1 _ _ h.uart1;
   gpio = places_moved c.down_gpio c.up_gpio _ _ h.gpio;
   pwm = places_moved c.down_pwm c.up_pwm _ _ h.pwm;
 }
@@ -64,6 +66,8 @@ unfolding tick
 credits_tick c l h = record {
   uart0 = cycle_keeps c.hub.fronts.uart0 c.down_uart0 (length c.uart0.fifo) c.up_uart0 _ _ _ _ l.uart0.down l.uart0.up
       (serves_uart0 c.hub c.cycle (arriving c)) (uart_counts c.uart0 c.cycle (first_of c.down_uart0)) h.uart0;
+  uart1 = cycle_keeps c.hub.fronts.uart1 c.down_uart1 (length c.uart1.fifo) c.up_uart1 _ _ _ _ l.uart1.down l.uart1.up
+      (serves_uart1 c.hub c.cycle (arriving c)) (uart_counts c.uart1 c.cycle (first_of c.down_uart1)) h.uart1;
   gpio = answers_keep c.hub.fronts.gpio.owed _ _ c.down_gpio c.up_gpio _ _ l.gpio.down l.gpio.up
       (gpio_hears c.hub.fronts.gpio (first_of c.up_gpio)) (serves_gpio c.hub c.cycle (arriving c)) (gpio_answers c.gpio c.cycle (first_of c.down_gpio)) h.gpio;
   pwm = answers_keep c.hub.fronts.pwm.owed _ _ c.down_pwm c.up_pwm _ _ l.pwm.down l.pwm.up
@@ -97,15 +101,17 @@ places_empty : (delay : ℕ) → 1 ≤ delay → HasPlaces (empty_line delay) (e
 places_empty delay l = record { down = empty_some Down delay l; up = empty_some Up delay l }
 
 -- in every state that the chip reaches, the credits of each unit are where they should be
-pub credits_hold : (v : Values) (image : List ℕ) (pins : List PinStep) (n : ℕ) → DelaysFit v → CreditsHold (after (start v image pins) n)
-credits_hold v image pins n d = credits_after (start v image pins) n
+pub credits_hold : (v : Values) (image : List ℕ) (script : Script) (n : ℕ) → DelaysFit v → CreditsHold (after (start v image script) n)
+credits_hold v image script n d = credits_after (start v image script) n
     (record {
       uart0 = places_empty (delay_of v 0) (delay_of_unit v 0 d (omega arith));
+      uart1 = places_empty (delay_of v 1) (delay_of_unit v 1 d (omega arith));
       gpio = places_empty (delay_of v 3) (delay_of_unit v 3 d (omega arith));
       pwm = places_empty (delay_of v 4) (delay_of_unit v 4 d (omega arith));
     })
     (record {
       uart0 = start_has (delay_of v 0) (delay_of v 0);
+      uart1 = start_has (delay_of v 1) (delay_of v 1);
       gpio = answers_start (delay_of v 3) (delay_of v 3);
       pwm = answers_start (delay_of v 4) (delay_of v 4);
     })
@@ -119,11 +125,15 @@ uart_loses_none p (d ∷ downs) s ups now h r =
     (keeps_order s now d).bytes r (omega (arith, small))
 
 none_lost : (c : State) → CreditsHold c → LosesNone c
-none_lost c h = record { uart0 = uart_loses_none c.hub.fronts.uart0 c.down_uart0 c.uart0 c.up_uart0 c.cycle h.uart0 }
+none_lost c h = record {
+  uart0 = uart_loses_none c.hub.fronts.uart0 c.down_uart0 c.uart0 c.up_uart0 c.cycle h.uart0;
+  uart1 = uart_loses_none c.hub.fronts.uart1 c.down_uart1 c.uart1 c.up_uart1 c.cycle h.uart1;
+}
 
 -- each unit keeps its number
 record NumbersStay (c : State) : Type 0 where
   uart0 : c.uart0.number ≡ 1
+  uart1 : c.uart1.number ≡ 2
 
 uart_number : (s : Uart) (now number : ℕ) (down : Option Down) → s.number ≡ number → (unit_cycle s now down).unit.number ≡ number
 uart_number s now number down e = (uart_tells s now down).number ∙ e
@@ -133,7 +143,10 @@ uart_event s now number down e = subst (λ unit. ToldAt unit now (unit_cycle s n
 
 numbers_tick : (c : State) → NumbersStay c → NumbersStay (tick c)
 unfolding tick
-numbers_tick c h = record { uart0 = uart_number c.uart0 c.cycle 1 (first_of c.down_uart0) h.uart0 }
+numbers_tick c h = record {
+  uart0 = uart_number c.uart0 c.cycle 1 (first_of c.down_uart0) h.uart0;
+  uart1 = uart_number c.uart1 c.cycle 2 (first_of c.down_uart1) h.uart1;
+}
 
 numbers_after : (c : State) (n : ℕ) → NumbersStay c → NumbersStay (after c n)
 unfolding after
@@ -147,11 +160,15 @@ events_tick c n h =
     let before_uart0 : EndBefore c.cycle 1 c.events = later_unit c.cycle 0 1 c.events (omega arith) h in
     let with_uart0 : EndBefore c.cycle 2 (c.events ++ option_to_list (unit_cycle c.uart0 c.cycle (first_of c.down_uart0)).event)
     = told_next c.cycle 1 c.events _ (uart_event c.uart0 c.cycle 1 (first_of c.down_uart0) n.uart0) before_uart0 in
-    let before_gpio : EndBefore c.cycle 4 (c.events ++ option_to_list (unit_cycle c.uart0 c.cycle (first_of c.down_uart0)).event)
-    = later_unit c.cycle 2 4 _ (omega arith) with_uart0 in
+    let with_uart1 : EndBefore c.cycle 3
+    (c.events ++ option_to_list (unit_cycle c.uart0 c.cycle (first_of c.down_uart0)).event
+    ++ option_to_list (unit_cycle c.uart1 c.cycle (first_of c.down_uart1)).event)
+    = told_next c.cycle 2 _ _ (uart_event c.uart1 c.cycle 2 (first_of c.down_uart1) n.uart1) with_uart0 in
     let with_gpio : EndBefore c.cycle 5
-    (c.events ++ option_to_list (unit_cycle c.uart0 c.cycle (first_of c.down_uart0)).event ++ option_to_list (gpio_cycle c.gpio c.cycle (first_of c.down_gpio)).event)
-    = told_next c.cycle 4 _ _ (gpio_tells c.gpio c.cycle (first_of c.down_gpio)) before_gpio in
+    (c.events ++ option_to_list (unit_cycle c.uart0 c.cycle (first_of c.down_uart0)).event
+    ++ option_to_list (unit_cycle c.uart1 c.cycle (first_of c.down_uart1)).event
+    ++ option_to_list (gpio_cycle c.gpio c.cycle (first_of c.down_gpio)).event)
+    = told_next c.cycle 4 _ _ (gpio_tells c.gpio c.cycle (first_of c.down_gpio)) (later_unit c.cycle 3 4 _ (omega arith) with_uart1) in
     next_cycle c.cycle 6 _ (told_next c.cycle 5 _ _ (pwm_tells c.pwm c.cycle (first_of c.down_pwm)) with_gpio)
 
 events_after : (c : State) (n : ℕ) → NumbersStay c → EndBefore c.cycle 0 c.events → EndBefore (after c n).cycle 0 (after c n).events
@@ -160,16 +177,16 @@ events_after c zero m h = h
 events_after c (suc n) m h = events_tick (after c n) (numbers_after c n m) (events_after c n m h)
 
 -- in every state that the chip reaches, its events are in order
-pub events_ordered : (v : Values) (image : List ℕ) (pins : List PinStep) (n : ℕ) → AreOrderedBefore n (after (start v image pins) n).events
-events_ordered v image pins n =
-    let all : EndBefore (after (start v image pins) n).cycle 0 (after (start v image pins) n).events
-    = events_after (start v image pins) n (record { uart0 = refl }) (record { order = tt; before = tt }) in
-    let now : (after (start v image pins) n).cycle ≡ n = cycle_after (start v image pins) n ∙ omega arith in
-    subst (λ cycle. AreOrderedBefore cycle (after (start v image pins) n).events) now (are_past _ _ all)
+pub events_ordered : (v : Values) (image : List ℕ) (script : Script) (n : ℕ) → AreOrderedBefore n (after (start v image script) n).events
+events_ordered v image script n =
+    let all : EndBefore (after (start v image script) n).cycle 0 (after (start v image script) n).events
+    = events_after (start v image script) n (record { uart0 = refl; uart1 = refl }) (record { order = tt; before = tt }) in
+    let now : (after (start v image script) n).cycle ≡ n = cycle_after (start v image script) n ∙ omega arith in
+    subst (λ cycle. AreOrderedBefore cycle (after (start v image script) n).events) now (are_past _ _ all)
 
 -- the same, for the settings of a chip
-pub credits_of_setup : (s : Setup) (image : List ℕ) (pins : List PinStep) (n : ℕ) → CreditsHold (after (start (values_of s) image pins) n)
-credits_of_setup s image pins n = credits_hold (values_of s) image pins n (record { lanes = s.lanes; each = s.delays })
+pub credits_of_setup : (s : Setup) (image : List ℕ) (script : Script) (n : ℕ) → CreditsHold (after (start (values_of s) image script) n)
+credits_of_setup s image script n = credits_hold (values_of s) image script n (record { lanes = s.lanes; each = s.delays })
 
-pub none_lost_of_setup : (s : Setup) (image : List ℕ) (pins : List PinStep) (n : ℕ) → LosesNone (after (start (values_of s) image pins) n)
-none_lost_of_setup s image pins n = none_lost (after (start (values_of s) image pins) n) (credits_of_setup s image pins n)
+pub none_lost_of_setup : (s : Setup) (image : List ℕ) (script : Script) (n : ℕ) → LosesNone (after (start (values_of s) image script) n)
+none_lost_of_setup s image script n = none_lost (after (start (values_of s) image script) n) (credits_of_setup s image script n)

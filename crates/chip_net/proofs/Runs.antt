@@ -24,13 +24,15 @@ cycle_after c (suc n) = let before : (after c n).cycle ≡ c.cycle + n = cycle_a
 -- events don't bear on what a cycle does: those before it stay in front
 tick_events : (c : State) (before : List Event) → tick (record c { events = before ++ c.events }) ≡ record (tick c) { events = before ++ (tick c).events }
 unfolding tick
-tick_events c before = ap (λ all. record (tick c) { events = all }) (in_front before c.events _ _ _)
+tick_events c before = ap (λ all. record (tick c) { events = all }) (in_front before c.events _ _ _ _)
   where
-    -- what stands in front stays there when the events of the three units are appended
-    in_front : (before old a b d : List Event) → before ++ old ++ a ++ b ++ d ≡ before ++ (old ++ a ++ b ++ d)
-    in_front before old a b d =
-        append_assoc (before ++ old ++ a) b d ∙ append_assoc (before ++ old) a (b ++ d) ∙ append_assoc before old (a ++ (b ++ d))
-        ∙ ap (λ rest. before ++ rest) (sym (append_assoc (old ++ a) b d ∙ append_assoc old a (b ++ d)))
+    -- what stands in front stays there when the events of the four units are appended
+    in_front : (before old a b d e : List Event) → before ++ old ++ a ++ b ++ d ++ e ≡ before ++ (old ++ a ++ b ++ d ++ e)
+    in_front before old a b d e =
+        append_assoc (before ++ old ++ a ++ b) d e ∙ append_assoc (before ++ old ++ a) b (d ++ e) ∙ append_assoc (before ++ old) a (b ++ (d ++ e))
+        ∙ append_assoc before old (a ++ (b ++ (d ++ e)))
+        ∙ ap (λ rest. before ++ rest)
+        (sym (append_assoc (old ++ a ++ b) d e ∙ append_assoc (old ++ a) b (d ++ e) ∙ append_assoc old a (b ++ (d ++ e))))
 
 -- the events before a run stay in front of those of the run, and bear on nothing else
 pub after_events : (c : State) (before : List Event) (n : ℕ)

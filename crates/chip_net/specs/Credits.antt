@@ -41,6 +41,7 @@ pub record HasSixteen (front : Port) (downs : List (Option Down)) (entries : ℕ
 -- so it is for each unit; those of gpio and pwm take no entries, and only Resets are counted
 pub record CreditsHold (c : State) : Type 0 where
   pub uart0 : HasSixteen c.hub.fronts.uart0 c.down_uart0 (length c.uart0.fifo) c.up_uart0
+  pub uart1 : HasSixteen c.hub.fronts.uart1 c.down_uart1 (length c.uart1.fifo) c.up_uart1
   pub gpio : AnswersComing c.hub.fronts.gpio.owed c.down_gpio c.up_gpio
   pub pwm : AnswersComing c.hub.fronts.pwm.owed c.down_pwm c.up_pwm
 
@@ -51,3 +52,4 @@ UartLosesNone s now down = reset_in down ≡ 0 → s.fifo ++ bytes_in down ≡ b
 -- no byte is lost in the cycle that comes next
 pub record LosesNone (c : State) : Type 0 where
   pub uart0 : UartLosesNone c.uart0 c.cycle (first_of c.down_uart0)
+  pub uart1 : UartLosesNone c.uart1 c.cycle (first_of c.down_uart1)

@@ -30,10 +30,13 @@ use uart_lane::Uart;
 pub struct Chip {
     hub: Hub,
     uart0: Uart,
+    uart1: Uart,
     gpio: Gpio,
     pwm: Pwm,
     down_uart0: DelayLine<Down>,
     up_uart0: DelayLine<Up>,
+    down_uart1: DelayLine<Down>,
+    up_uart1: DelayLine<Up>,
     down_gpio: DelayLine<Down>,
     up_gpio: DelayLine<Up>,
     down_pwm: DelayLine<Down>,
@@ -52,10 +55,13 @@ impl Model for Chip {
     ghost view = { λ c. record {
       hub = c.hub;
       uart0 = c.uart0;
+      uart1 = c.uart1;
       gpio = c.gpio;
       pwm = c.pwm;
       down_uart0 = c.down_uart0.places;
       up_uart0 = c.up_uart0.places;
+      down_uart1 = c.down_uart1.places;
+      up_uart1 = c.up_uart1.places;
       down_gpio = c.down_gpio.places;
       up_gpio = c.up_gpio.places;
       down_pwm = c.down_pwm.places;
@@ -64,7 +70,7 @@ impl Model for Chip {
       events = c.events.items;
     } };
 
-    ghost invariant = { λ c. (c.down_uart0.cycle ≡ c.cycle) × (c.up_uart0.cycle ≡ c.cycle)
+    ghost invariant = { λ c. (c.down_uart0.cycle ≡ c.cycle) × (c.up_uart0.cycle ≡ c.cycle) × (c.down_uart1.cycle ≡ c.cycle) × (c.up_uart1.cycle ≡ c.cycle)
         × (c.down_gpio.cycle ≡ c.cycle) × (c.up_gpio.cycle ≡ c.cycle) × (c.down_pwm.cycle ≡ c.cycle) × (c.up_pwm.cycle ≡ c.cycle) };
 }
 
@@ -104,11 +110,10 @@ impl Chip {
     ) -> Result<Chip, NoMemory>
         requires raw { boot ≡ Raw }
         requires fits { length image.items ≤ setup.now.imem }
-        requires no_script { script.uart0 ≡ [] }
-        ensures chip { IfOk result (λ chip. chip ≡ start (values_of setup.now) image.items script.pins) }
-        ensures credits { (n : ℕ) → CreditsHold (after (start (values_of setup.now) image.items script.pins) n) }
-        ensures none_lost { (n : ℕ) → LosesNone (after (start (values_of setup.now) image.items script.pins) n) }
-        ensures order { (n : ℕ) → AreOrderedBefore n (after (start (values_of setup.now) image.items script.pins) n).events }
+        ensures chip { IfOk result (λ chip. chip ≡ start (values_of setup.now) image.items script) }
+        ensures credits { (n : ℕ) → CreditsHold (after (start (values_of setup.now) image.items script) n) }
+        ensures none_lost { (n : ℕ) → LosesNone (after (start (values_of setup.now) image.items script) n) }
+        ensures order { (n : ℕ) → AreOrderedBefore n (after (start (values_of setup.now) image.items script) n).events }
     {
         Chip::built(alloc, setup, boot, image, script)
     }
@@ -123,12 +128,17 @@ impl Chip {
     ) -> Result<Chip, NoMemory>
         requires raw { boot ≡ Raw }
         requires fits { length image.items ≤ setup.now.imem }
-        requires no_script { script.uart0 ≡ [] }
-        ensures { IfOk result (λ chip. chip ≡ start (values_of setup.now) image.items script.pins) }
+        ensures { IfOk result (λ chip. chip ≡ start (values_of setup.now) image.items script) }
     {
         let hub = Hub::new(alloc, setup, boot, &image)?;
+        let Ok(copy) = Vec::from_slice(alloc, &image) else {
+            return Err(NoMemory);
+        };
+        let copy = Bytes::from_vec(copy);
         let down_uart0 = link(alloc, setup, 0)?;
         let up_uart0 = link(alloc, setup, 0)?;
+        let down_uart1 = link(alloc, setup, 1)?;
+        let up_uart1 = link(alloc, setup, 1)?;
         let down_gpio = link(alloc, setup, 3)?;
         let up_gpio = link(alloc, setup, 3)?;
         let down_pwm = link(alloc, setup, 4)?;
@@ -136,10 +146,13 @@ impl Chip {
         Ok(Chip {
             hub,
             uart0: Uart::new(1, script.uart0, Bytes::from_vec(image)),
+            uart1: Uart::new(2, script.uart1, copy),
             gpio: Gpio::new(script.pins),
             pwm: Pwm::new(),
             down_uart0,
             up_uart0,
+            down_uart1,
+            up_uart1,
             down_gpio,
             up_gpio,
             down_pwm,
@@ -157,7 +170,7 @@ impl Chip {
     {
         let ups = [
             self.up_uart0.arriving(),
-            None,
+            self.up_uart1.arriving(),
             None,
             self.up_gpio.arriving(),
             self.up_pwm.arriving(),
@@ -166,16 +179,20 @@ impl Chip {
         ];
         let downs = self.hub.cycle(self.cycle, &ups);
         let uart0 = self.uart0.cycle(self.cycle, self.down_uart0.arriving());
+        let uart1 = self.uart1.cycle(self.cycle, self.down_uart1.arriving());
         let gpio = self.gpio.cycle(self.cycle, self.down_gpio.arriving());
         let pwm = self.pwm.cycle(self.cycle, self.down_pwm.arriving());
         self.down_uart0.step(downs[0]);
         self.up_uart0.step(uart0.up);
+        self.down_uart1.step(downs[1]);
+        self.up_uart1.step(uart1.up);
         self.down_gpio.step(downs[3]);
         self.up_gpio.step(gpio.up);
         self.down_pwm.step(downs[4]);
         self.up_pwm.step(pwm.up);
         self.cycle += 1;
         keep(&mut self.events, uart0.event)?;
+        keep(&mut self.events, uart1.event)?;
         keep(&mut self.events, gpio.event)?;
         keep(&mut self.events, pwm.event)?;
         Ok(())

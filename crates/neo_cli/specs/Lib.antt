@@ -1,6 +1,6 @@
 pub mod Answer
 pub mod Bank
-pub mod Job
+pub mod Inputs
 pub mod Outcome
 pub mod Report
 pub mod Told

@@ -1,14 +1,18 @@
-//! `neo`, a bench simulator of one small RISC-V system on chip: runs a file of instructions, and reports what it leaves.
+//! `neo`, a bench simulator of one small RISC-V system on chip: runs firmware under scripted input, and reports what left the chip.
 #![tactic(auto)]
 
 mod bank;
 mod bench;
+mod input;
+mod judge;
 mod outcome;
+mod refusal;
 mod report;
 mod run;
+mod steps;
+mod tell;
 #[cfg(test)]
 mod tests;
-mod words;
 
 use bench_shelf::{FileShelf, OutSink};
 use std::io::ErrorKind;

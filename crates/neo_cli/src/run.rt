@@ -1,9 +1,9 @@
 //! A run of the chip from power-on.
-ghost use Rattle.std.specs.Prelude.{◌≡◌, ◌+◌, ◌^◌, ◌<◌, ◌≤◌, [], length, IfOk, OnOk};
+ghost use Rattle.std.specs.Prelude.{◌≡◌, ◌+◌, ◌^◌, ◌<◌, ◌≤◌, length, IfOk, OnOk};
 ghost use Rattle.chip_base.specs.Settings.{values_of};
 ghost use Rattle.chip_net.specs.Chip.{after, start};
 
-use chip_base::{Boot, Event, Groups, NoMemory, Pins, Script, Setup, Steps0};
+use chip_base::{Boot, Event, Groups, NoMemory, Script, Setup};
 use chip_net::Chip;
 use std::alloc::Global;
 use std::marker::Model;
@@ -26,27 +26,19 @@ impl Model for Run {
     ghost view = { λ r. record r.chip { events = r.events.items } };
 }
 
-/// A script that does nothing.
-fn no_script(alloc: Global) -> Script
-    ensures steps { result.uart0 ≡ [] }
-    ensures pins { result.pins ≡ [] }
-{
-    Script {
-        pins: Pins::from_vec(Vec::new(alloc)).unwrap(),
-        uart0: Steps0::from_vec(Vec::new(alloc)).unwrap(),
-        uart1: Steps0::from_vec(Vec::new(alloc)).unwrap(),
-    }
-}
-
 impl Run {
     /// The chip at power-on, with the bytes of a file in IMEM from address 0 on.
-    fn new(alloc: Global, setup: &Setup, image: Vec<u8>) -> Result<Run, NoMemory>
+    fn new(
+        alloc: Global,
+        setup: &Setup,
+        image: Vec<u8>,
+        script: Script,
+        groups: &Groups,
+    ) -> Result<Run, NoMemory>
         requires { length image.items ≤ setup.now.imem }
-        ensures { IfOk result (λ run. run ≡ start (values_of setup.now) image.items []) }
+        ensures { IfOk result (λ run. run ≡ start (values_of setup.now) image.items script) }
     {
-        let script = no_script(alloc);
-        let groups = Groups { of: [0; 8] };
-        let chip = Chip::new(alloc, setup, Boot::Raw, image, script, &groups)?;
+        let chip = Chip::new(alloc, setup, Boot::Raw, image, script, groups)?;
         Ok(Run {
             chip,
             events: Vec::new(alloc),
@@ -67,12 +59,19 @@ impl Run {
         }
     }
 
-    /// The run of this many cycles from power-on, if there is memory for it.
-    pub fn over(alloc: Global, setup: &Setup, image: Vec<u8>, cycles: u32) -> Result<Run, NoMemory>
+    /// The run of this many cycles from power-on, if there is memory for it. How the lanes are grouped doesn't change it.
+    pub fn over(
+        alloc: Global,
+        setup: &Setup,
+        image: Vec<u8>,
+        script: Script,
+        groups: &Groups,
+        cycles: u32,
+    ) -> Result<Run, NoMemory>
         requires { length image.items ≤ setup.now.imem }
-        ensures { IfOk result (λ run. run ≡ after (start (values_of setup.now) image.items []) cycles) }
+        ensures { IfOk result (λ run. run ≡ after (start (values_of setup.now) image.items script) cycles) }
     {
-        let mut run = Run::new(alloc, setup, image)?;
+        let mut run = Run::new(alloc, setup, image, script, groups)?;
         for _ in 0..cycles / STRETCH {
             run.step(STRETCH)?;
         }

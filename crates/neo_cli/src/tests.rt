@@ -223,12 +223,14 @@ mem 00000010 6f000000000000000000000000000000
 end
 ";
 
-/// What a call is given: the words, which blanks separate, the bytes of `prog.bin`, and the numbers of the reads and of the texts
-/// that fail.
+/// What a call is given: the words, which blanks separate, the bytes of `prog.bin`, `chip.toml` and `up.txt`, and the numbers of the
+/// reads and of the texts that fail.
 #[derive(Clone, Copy)]
 struct Case<'a> {
     words: &'a str,
     file: &'a [u8],
+    chip: &'a [u8],
+    script: &'a [u8],
     failing_reads: &'a [u64],
     failing_puts: &'a [u64],
 }
@@ -254,11 +256,17 @@ fn zero_bytes(alloc: Global, count: usize) -> Result<Vec<u8>, AllocError> {
     vec![in alloc; 0u8; count]
 }
 
-fn shelf_of(alloc: Global, bytes: &[u8], failing_reads: &[u64]) -> Result<MemShelf, AllocError> {
-    let name = String::from_str(alloc, "prog.bin")?;
+fn shelf_of(alloc: Global, case: &Case<'_>) -> Result<MemShelf, AllocError> {
     let mut files = Vec::new(alloc);
-    files.push((name, Vec::from_slice(alloc, bytes)?))?;
-    let failing = Vec::from_slice(alloc, failing_reads)?;
+    for (name, bytes) in [
+        ("prog.bin", case.file),
+        ("chip.toml", case.chip),
+        ("up.txt", case.script),
+    ] {
+        let name = String::from_str(alloc, name)?;
+        files.push((name, Vec::from_slice(alloc, bytes)?))?;
+    }
+    let failing = Vec::from_slice(alloc, case.failing_reads)?;
     Ok(MemShelf::new(alloc, files, failing, Vec::new(alloc)))
 }
 
@@ -271,7 +279,7 @@ fn answers<R: Threads + Sync>(
     text: &str,
 ) -> Result<bool, AllocError> {
     let words = words_of(alloc, case.words)?;
-    let mut shelf = shelf_of(alloc, case.file, case.failing_reads)?;
+    let mut shelf = shelf_of(alloc, case)?;
     let mut out = MemSink::new(alloc, Vec::from_slice(alloc, case.failing_puts)?);
     let answer = bench(rt, alloc, &words, &mut shelf, &mut out);
     Ok(answer == status && out.bytes() == text.as_bytes())
@@ -331,6 +339,8 @@ fn reports_runs(rt: HostRuntime) -> Result<(), AllocError> {
         let case = Case {
             words,
             file: &bytes,
+            chip: &[],
+            script: &[],
             failing_reads: &[],
             failing_puts: &[],
         };
@@ -352,6 +362,8 @@ fn limits_files(rt: HostRuntime) -> Result<(), AllocError> {
         let case = Case {
             words: "run prog.bin 0 --boot raw",
             file: &zeros,
+            chip: &[],
+            script: &[],
             failing_reads: &[],
             failing_puts: &[],
         };
@@ -372,6 +384,8 @@ fn tells_faults(rt: HostRuntime) -> Result<(), AllocError> {
         let case = Case {
             words: "run prog.bin 100 --boot raw",
             file: &bytes,
+            chip: &[],
+            script: &[],
             failing_reads: &failing_reads,
             failing_puts: &failing_puts,
         };
@@ -381,6 +395,8 @@ fn tells_faults(rt: HostRuntime) -> Result<(), AllocError> {
     let case = Case {
         words: "run prog.bin 100 --boot raw",
         file: &bytes,
+        chip: &[],
+        script: &[],
         failing_reads: &[],
         failing_puts: &[3],
     };
@@ -389,6 +405,8 @@ fn tells_faults(rt: HostRuntime) -> Result<(), AllocError> {
     let case = Case {
         words: "run prog.bin 100 --boot raw",
         file: &zeros,
+        chip: &[],
+        script: &[],
         failing_reads: &[],
         failing_puts: &[1],
     };
@@ -404,7 +422,9 @@ fn refuses_words(rt: HostRuntime) -> Result<(), AllocError> {
         "run prog.bin 100 --boot raw raw",
         "walk prog.bin 100 --boot raw",
         "run prog.bin 100 --boot direct",
-        "run prog.bin --boot raw 100",
+        "run prog.bin",
+        "run prog.bin 10 --boot raw --groups hub,hub",
+        "run prog.bin 10 --boot raw --chip",
         "run prog.bin  --boot raw",
         "run prog.bin 1x --boot raw",
         "run prog.bin -1 --boot raw",
@@ -415,6 +435,8 @@ fn refuses_words(rt: HostRuntime) -> Result<(), AllocError> {
         let case = Case {
             words,
             file: &[],
+            chip: &[],
+            script: &[],
             failing_reads: &[],
             failing_puts: &[],
         };
@@ -422,6 +444,233 @@ fn refuses_words(rt: HostRuntime) -> Result<(), AllocError> {
             answers(&rt, rt.alloc(), &case, 2, "error usage\n")?,
             "{words}"
         );
+    }
+    Ok(())
+}
+
+/// UART0 is enabled, then pins and received bytes are gathered: lui x1, 0xfff50; addi x2, x0, 1; sw x2, 0(x1); lui x3, 0xfffc0;
+/// lw x4, 0(x3); lw x5, 4(x1); or x6, x6, x5; jal x0, -12
+const HEAR: [u32; 8] = [
+    0xfff5_00b7,
+    0x0010_0113,
+    0x0020_a023,
+    0xfffc_01b7,
+    0x0001_a203,
+    0x0040_a283,
+    0x0053_6333,
+    0xff5f_f06f,
+];
+
+const HEAR_SCRIPT: &[u8] = b"pin 20 3 1\nuart0 at 100\nuart0 send \"A\"\n";
+
+/// Pin 3 went up, and UART0 received an A.
+const HEAR_HEARD: &str = "cycles 200
+boot raw
+hart 0 run pc 00000018 retired 46
+x1 fff50000
+x2 00000001
+x3 fffc0000
+x4 00000008
+x6 00000041
+mem 00000000 b700f5ff1301100023a02000b701fcff
+mem 00000010 03a2010083a24000336353006ff05fff
+end
+";
+
+/// With the standard 32 cycles of the link the byte isn't received yet.
+const HEAR_STANDARD: &str = "cycles 150
+boot raw
+hart 0 run pc 00000010 retired 36
+x1 fff50000
+x2 00000001
+x3 fffc0000
+x4 00000008
+mem 00000000 b700f5ff1301100023a02000b701fcff
+mem 00000010 03a2010083a24000336353006ff05fff
+end
+";
+
+/// With eight cycles it is.
+const HEAR_QUICK: &str = "cycles 150
+boot raw
+hart 0 run pc 00000010 retired 36
+x1 fff50000
+x2 00000001
+x3 fffc0000
+x4 00000008
+x5 00000041
+x6 00000041
+mem 00000000 b700f5ff1301100023a02000b701fcff
+mem 00000010 03a2010083a24000336353006ff05fff
+end
+";
+
+#[test]
+fn reads_chip_files_and_scripts(rt: HostRuntime) -> Result<(), AllocError> {
+    for (words, chip, text) in [
+        (
+            "run prog.bin 200 --boot raw --chip chip.toml --script up.txt",
+            b"imem = 4096\n[delay]\nuart0 = 8\n".as_slice(),
+            HEAR_HEARD,
+        ),
+        (
+            "run --script=up.txt --groups each --boot raw prog.bin 150",
+            b"",
+            HEAR_STANDARD,
+        ),
+        (
+            "run prog.bin 150 --chip=chip.toml --boot raw --script up.txt",
+            b"[delay]\nuart0 = 8\n",
+            HEAR_QUICK,
+        ),
+    ] {
+        let bytes = bytes_of(rt.alloc(), &HEAR)?;
+        let case = Case {
+            words,
+            file: &bytes,
+            chip,
+            script: HEAR_SCRIPT,
+            failing_reads: &[],
+            failing_puts: &[],
+        };
+        assert!(&rt; answers(&rt, rt.alloc(), &case, 0, text)?, "{words}");
+    }
+    Ok(())
+}
+
+#[test]
+fn refuses_chip_files(rt: HostRuntime) -> Result<(), AllocError> {
+    for (chip, text) in [
+        (
+            b"[delay]\nuart0 = 4097\n".as_slice(),
+            "error chip range delay.uart0\n",
+        ),
+        (b"imem = 5000\n", "error chip range imem\n"),
+        (b"imm = 1\n", "error chip key\n"),
+        (b"flash = 1\n", "error chip key\n"),
+        (b"imem = 5000\ndmem = true\n", "error chip key\n"),
+        (b"imem\n", "error chip toml\n"),
+        (b"# \xff\n", "error chip toml\n"),
+    ] {
+        let case = Case {
+            words: "run other.bin 10 --boot raw --chip chip.toml --script up.txt",
+            file: &[],
+            chip,
+            script: b"jump",
+            failing_reads: &[],
+            failing_puts: &[],
+        };
+        assert!(&rt; answers(&rt, rt.alloc(), &case, 6, text)?, "{text}");
+    }
+    Ok(())
+}
+
+#[test]
+fn refuses_scripts(rt: HostRuntime) -> Result<(), AllocError> {
+    for (script, text) in [
+        (
+            b"# pins\npin 5 32 1\nuart0 jump\n".as_slice(),
+            "error script line 2 pin\n",
+        ),
+        (b"uart0 jump\n", "error script line 1 word\n"),
+        (b"pin x 32 1\n", "error script line 1 number\n"),
+        (b"pin 5 1 1\n\npin 4 1 0\n", "error script line 3 order\n"),
+        (b"uart1 hex 4\n", "error script line 1 hex\n"),
+        (b"uart0 expect \"\"\n", "error script line 1 text\n"),
+    ] {
+        let case = Case {
+            words: "run prog.bin 10 --boot raw --script up.txt",
+            file: &[],
+            chip: &[],
+            script,
+            failing_reads: &[],
+            failing_puts: &[],
+        };
+        assert!(&rt; answers(&rt, rt.alloc(), &case, 5, text)?, "{text}");
+    }
+    Ok(())
+}
+
+/// The first file that is refused decides, in the order chip file, image, script.
+#[test]
+fn refuses_files_in_order(rt: HostRuntime) -> Result<(), AllocError> {
+    let large = zero_bytes(rt.alloc(), 65_537)?;
+    let long = zero_bytes(rt.alloc(), 1_048_577)?;
+    for (words, chip, script, failing_reads, status, text) in [
+        (
+            "run prog.bin 0 --boot raw --chip other.toml --script up.txt",
+            b"".as_slice(),
+            b"jump".as_slice(),
+            [0].as_slice(),
+            3,
+            "error read other.toml\n",
+        ),
+        (
+            "run other.bin 0 --boot raw --chip chip.toml --script up.txt",
+            large.as_slice(),
+            b"jump",
+            &[0],
+            3,
+            "error long chip.toml\n",
+        ),
+        (
+            "run other.bin 0 --boot raw --chip chip.toml --script up.txt",
+            b"imem = 131072\n",
+            b"jump",
+            &[0],
+            3,
+            "error read other.bin\n",
+        ),
+        (
+            "run prog.bin 0 --boot raw --chip chip.toml --script up.txt",
+            b"imem = 4096\n",
+            b"jump",
+            &[0],
+            4,
+            "error image size 65537\n",
+        ),
+        (
+            "run prog.bin 0 --boot raw --chip chip.toml --script up.txt",
+            b"imem = 131072\n",
+            long.as_slice(),
+            &[0],
+            3,
+            "error long up.txt\n",
+        ),
+        (
+            "run prog.bin 0 --boot raw --chip chip.toml --script other.txt",
+            b"imem = 131072\n",
+            b"",
+            &[0],
+            3,
+            "error read other.txt\n",
+        ),
+        (
+            "run prog.bin 0 --boot raw --chip chip.toml --script up.txt",
+            b"imem = 131072\n",
+            b"jump",
+            &[3],
+            3,
+            "error read up.txt\n",
+        ),
+        (
+            "run prog.bin 0 --boot raw --chip chip.toml --script up.txt",
+            b"imem = 131072\n",
+            b"jump",
+            &[2],
+            3,
+            "error read prog.bin\n",
+        ),
+    ] {
+        let case = Case {
+            words,
+            file: &large,
+            chip,
+            script,
+            failing_reads,
+            failing_puts: &[],
+        };
+        assert!(&rt; answers(&rt, rt.alloc(), &case, status, text)?, "{text}");
     }
     Ok(())
 }

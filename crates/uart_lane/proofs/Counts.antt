@@ -6,7 +6,7 @@ use Rattle.chip_base.specs.declared.message.Down.TheVariants.{Reset, Set}
 use Rattle.chip_base.specs.declared.message.Up.{Up}
 use Rattle.chip_base.specs.Messages.{data_in, credit_in, done_in}
 use Rattle.uart_lane.specs.State.{State}
-use Rattle.uart_lane.specs.Cycle.{Given, appended, set_in, may_begin, begun, ended, sent, unit_cycle}
+use Rattle.uart_lane.specs.Cycle.{Given, appended, set_in, may_begin, begun, ended, sent, heard_by, received, with_byte, unit_cycle}
 use Rattle.uart_lane.specs.Counts.{KeepsCount}
 
 -- the bytes in the unit and the credit that goes up
@@ -65,12 +65,39 @@ sent-done_by s now false false p q = rw (p, q) refl
 pub sent-done : (s : State) (now : ℕ) → done_in (sent s now).up ≡ 0
 sent-done s now = sent-done_by s now _ _ refl refl
 
+-- a received byte changes neither credit nor answer
+pub same-credit : (up : Option Up) (byte : Option ℕ) → credit_in (with_byte up byte) ≡ credit_in up
+same-credit None None = refl
+same-credit None (Some b) = refl
+same-credit (Some up) None = refl
+same-credit (Some up) (Some b) = refl
+
+pub same-done : (up : Option Up) (byte : Option ℕ) → done_in (with_byte up byte) ≡ done_in up
+same-done None None = refl
+same-done None (Some b) = refl
+same-done (Some up) None = refl
+same-done (Some up) (Some b) = refl
+
+-- nor does the receiver change what is counted
+pub received-count : (g : Given) (now : ℕ) → counted (received g now) ≡ counted g
+received-count g now = ap (λ n. length g.unit.fifo + n) (same-credit g.up (heard_by g now).byte)
+
+pub received-done : (g : Given) (now : ℕ) → done_in (received g now).up ≡ done_in g.up
+received-done g now = same-done g.up (heard_by g now).byte
+
+-- the transmitter and the receiver together
+worked-count : (s : State) (now : ℕ) → counted (received (sent (begun s) now) now) ≡ length s.fifo
+worked-count s now = received-count (sent (begun s) now) now ∙ sent-count (begun s) now ∙ ap length (begun-fifo s)
+
+worked-done : (s : State) (now : ℕ) → done_in (received (sent (begun s) now) now).up ≡ 0
+worked-done s now = received-done (sent (begun s) now) now ∙ sent-done (begun s) now
+
 pub keeps_count : (s : State) (now : ℕ) (down : Option Down) → KeepsCount s down (unit_cycle s now down).unit (unit_cycle s now down).up
 unfolding unit_cycle
 keeps_count s now None = record {
-  bytes = λ r h. sent-count (begun s) now ∙ ap length (begun-fifo s) ∙ omega arith;
+  bytes = λ r h. worked-count s now ∙ omega arith;
   after_reset = λ r. absurd (omega arith);
-  answers = sent-done (begun s) now;
+  answers = worked-done s now;
 }
 keeps_count s now (Some Reset) = record {
   bytes = λ r h. absurd (omega arith);
@@ -78,9 +105,9 @@ keeps_count s now (Some Reset) = record {
   answers = refl;
 }
 keeps_count s now (Some (Set reg word)) = record {
-  bytes = λ r h. sent-count (begun (set_in s reg word)) now ∙ ap length (begun-fifo (set_in s reg word)) ∙ set-count s reg word h;
+  bytes = λ r h. worked-count (set_in s reg word) now ∙ set-count s reg word h;
   after_reset = λ r. absurd (omega arith);
-  answers = sent-done (begun (set_in s reg word)) now;
+  answers = worked-done (set_in s reg word) now;
 }
 
 -- what a cycle does, where the unit after it and its message are known by equations

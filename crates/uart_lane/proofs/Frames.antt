@@ -3,41 +3,48 @@ use Rattle.std.proofs.Common.{◌≡◌, ℕ, zero, suc, ◌+◌, ◌-◌, ◌*�
 use Rattle.std.proofs.lemmas.Bool.Decides.{nat_tests}
 use Rattle.chip_base.specs.declared.event.EventKind.TheVariants.{Tx}
 use Rattle.chip_base.specs.declared.message.Down.TheVariants.{Set}
+use Rattle.uart_lane.specs.Receiver.{Receiver}
 use Rattle.uart_lane.specs.State.{State}
-use Rattle.uart_lane.specs.Cycle.{quiet, sent, unit_cycle}
+use Rattle.uart_lane.specs.Cycle.{Given, quiet, sent, received, unit_cycle}
 use Rattle.uart_lane.specs.Frames.{only_first, unit_before, given_at, IsIdle, LeavesInTime}
 
 -- an idle unit
-abbrev pub idle : ℕ → ℕ → State
-idle number bit = record { number = number; enabled = true; bit = bit; fifo = []; left = 0 }
+abbrev pub idle : ℕ → ℕ → Receiver → State
+idle number bit r = record { number = number; enabled = true; bit = bit; fifo = []; left = 0; receiver = r }
 
 -- the unit while the frame of a byte runs and no other byte waits
-abbrev pub running : ℕ → ℕ → ℕ → ℕ → State
-running number bit byte left = record { number = number; enabled = true; bit = bit; fifo = byte ∷ []; left = left }
+abbrev pub running : ℕ → ℕ → ℕ → ℕ → Receiver → State
+running number bit byte left r = record { number = number; enabled = true; bit = bit; fifo = byte ∷ []; left = left; receiver = r }
+
+-- what a cycle gives in which no byte leaves
+abbrev pub waited : ℕ → ℕ → ℕ → ℕ → ℕ → Receiver → Given
+waited n b byte m now r = received (quiet (running n b byte m r)) now
 
 pub not_equal : (a b : ℕ) → b < a → eqb a b ≡ false
 not_equal a b h = grind (arith, nat_tests)
 
-pub sent-long : (n b byte now m : ℕ) → 1 < m → sent (running n b byte m) now ≡ quiet (running n b byte (m - 1))
-sent-long n b byte now m h =
+pub sent-long : (n b byte now m : ℕ) (r : Receiver) → 1 < m → sent (running n b byte m r) now ≡ quiet (running n b byte (m - 1) r)
+sent-long n b byte now m r h =
     let e0 : eqb m 0 ≡ false = not_equal m 0 (omega arith) in
     let e1 : eqb m 1 ≡ false = not_equal m 1 h in
     rw (e0, e1) refl
 
-pub first-cycle : (n b t word : ℕ) → 0 < b
-    → unit_cycle (idle n b) t (Some (Set 4 word)) ≡ quiet (running n b (word % 256) (10 * b - 1))
+pub first-cycle : (n b t word : ℕ) (r : Receiver) → 0 < b
+    → unit_cycle (idle n b r) t (Some (Set 4 word)) ≡ waited n b (word % 256) (10 * b - 1) t r
 unfolding unit_cycle
-first-cycle n b t word h = sent-long n b (word % 256) t (10 * b) (omega arith)
+first-cycle n b t word r h = ap (λ g. received g t) (sent-long n b (word % 256) t (10 * b) r (omega arith))
 
-pub next-cycle : (n b byte now m : ℕ) → 1 < m → unit_cycle (running n b byte m) now None ≡ quiet (running n b byte (m - 1))
+pub next-cycle : (n b byte now m : ℕ) (r : Receiver) → 1 < m
+    → unit_cycle (running n b byte m r) now None ≡ waited n b byte (m - 1) now r
 unfolding unit_cycle
-next-cycle n b byte now m h =
+next-cycle n b byte now m r h =
     let e0 : eqb m 0 ≡ false = not_equal m 0 (omega arith) in
-    rw e0 (sent-long n b byte now m h)
+    rw e0 (ap (λ g. received g now) (sent-long n b byte now m r h))
 
-pub last-cycle : (n b byte now : ℕ) → (unit_cycle (running n b byte 1) now None).event ≡ Some (record { cycle = now; unit = n; kind = Tx; value = byte })
+pub last-cycle : (n b byte now : ℕ) (r : Receiver)
+    → (unit_cycle (running n b byte 1 r) now None).event ≡ Some (record { cycle = now; unit = n; kind = Tx; value = byte })
 unfolding unit_cycle
-last-cycle n b byte now = refl
+last-cycle n b byte now r = refl
 
 pub before-next : (s : State) (t word k : ℕ) → unit_before s t word (suc k) ≡ (given_at s t word k).unit
 unfolding unit_before
@@ -47,39 +54,49 @@ pub before-first : (s : State) (t word : ℕ) → unit_before s t word 0 ≡ s
 unfolding unit_before
 before-first s t word = refl
 
-pub before-is : (n b t word k : ℕ) → 0 < b → k + 1 < 10 * b
-    → unit_before (idle n b) t word (suc k) ≡ running n b (word % 256) (10 * b - (k + 1))
-before-is n b t word zero p h =
-    before-next (idle n b) t word 0
-    ∙ ap (λ s. (unit_cycle s (t + 0) (only_first word 0)).unit) (before-first (idle n b) t word)
-    ∙ ap (λ g. g.unit) (first-cycle n b (t + 0) word p)
-before-is n b t word (suc k) p h =
-    before-next (idle n b) t word (suc k)
-    ∙ ap (λ s. (unit_cycle s (t + suc k) None).unit) (before-is n b t word k p (omega arith))
-    ∙ ap (λ g. g.unit) (next-cycle n b (word % 256) (t + suc k) (10 * b - (k + 1)) (omega arith))
-    ∙ ap (λ m. running n b (word % 256) m) (omega arith)
+-- the frame runs, whatever was received
+pub before-is : (n b t word k : ℕ) (r : Receiver) → 0 < b → k + 1 < 10 * b
+    → (q : Receiver) × (unit_before (idle n b r) t word (suc k) ≡ running n b (word % 256) (10 * b - (k + 1)) q)
+before-is n b t word zero r p h = (
+  (waited n b (word % 256) (10 * b - 1) (t + 0) r).unit.receiver,
+  before-next (idle n b r) t word 0
+      ∙ ap (λ s. (unit_cycle s (t + 0) (only_first word 0)).unit) (before-first (idle n b r) t word)
+      ∙ ap (λ g. g.unit) (first-cycle n b (t + 0) word r p),
+)
+before-is n b t word (suc k) r p h =
+    let q : (q : Receiver) × (unit_before (idle n b r) t word (suc k) ≡ running n b (word % 256) (10 * b - (k + 1)) q)
+    = before-is n b t word k r p (omega arith) in (
+      (waited n b (word % 256) (10 * b - (k + 1) - 1) (t + suc k) q.0).unit.receiver,
+      before-next (idle n b r) t word (suc k)
+          ∙ ap (λ s. (unit_cycle s (t + suc k) None).unit) q.1
+          ∙ ap (λ g. g.unit) (next-cycle n b (word % 256) (t + suc k) (10 * b - (k + 1)) q.0 (omega arith))
+          ∙ ap (λ m. running n b (word % 256) m (waited n b (word % 256) (10 * b - (k + 1) - 1) (t + suc k) q.0).unit.receiver) (omega arith),
+    )
 
-pub quiet-before : (n b t word k : ℕ) → 0 < b → k + 1 < 10 * b → (given_at (idle n b) t word k).event ≡ None
-quiet-before n b t word zero p h =
-    ap (λ s. (unit_cycle s (t + 0) (only_first word 0)).event) (before-first (idle n b) t word)
-    ∙ ap (λ g. g.event) (first-cycle n b (t + 0) word p)
-quiet-before n b t word (suc k) p h =
-    ap (λ s. (unit_cycle s (t + suc k) None).event) (before-is n b t word k p (omega arith))
-    ∙ ap (λ g. g.event) (next-cycle n b (word % 256) (t + suc k) (10 * b - (k + 1)) (omega arith))
+pub quiet-before : (n b t word k : ℕ) (r : Receiver) → 0 < b → k + 1 < 10 * b → (given_at (idle n b r) t word k).event ≡ None
+quiet-before n b t word zero r p h =
+    ap (λ s. (unit_cycle s (t + 0) (only_first word 0)).event) (before-first (idle n b r) t word)
+    ∙ ap (λ g. g.event) (first-cycle n b (t + 0) word r p)
+quiet-before n b t word (suc k) r p h =
+    let q : (q : Receiver) × (unit_before (idle n b r) t word (suc k) ≡ running n b (word % 256) (10 * b - (k + 1)) q)
+    = before-is n b t word k r p (omega arith) in
+    ap (λ s. (unit_cycle s (t + suc k) None).event) q.1
+    ∙ ap (λ g. g.event) (next-cycle n b (word % 256) (t + suc k) (10 * b - (k + 1)) q.0 (omega arith))
 
-pub sent-at : (n b t word k : ℕ) → 0 < b → k + 1 ≡ 10 * b
-    → (given_at (idle n b) t word k).event ≡ Some (record { cycle = t + k; unit = n; kind = Tx; value = word % 256 })
-sent-at n b t word zero p h = absurd (omega arith)
-sent-at n b t word (suc k) p h =
-    ap (λ s. (unit_cycle s (t + suc k) None).event) (before-is n b t word k p (omega arith)
-    ∙ ap (λ m. running n b (word % 256) m) (omega arith))
-    ∙ last-cycle n b (word % 256) (t + suc k)
+pub sent-at : (n b t word k : ℕ) (r : Receiver) → 0 < b → k + 1 ≡ 10 * b
+    → (given_at (idle n b r) t word k).event ≡ Some (record { cycle = t + k; unit = n; kind = Tx; value = word % 256 })
+sent-at n b t word zero r p h = absurd (omega arith)
+sent-at n b t word (suc k) r p h =
+    let q : (q : Receiver) × (unit_before (idle n b r) t word (suc k) ≡ running n b (word % 256) (10 * b - (k + 1)) q)
+    = before-is n b t word k r p (omega arith) in
+    ap (λ s. (unit_cycle s (t + suc k) None).event) (q.1 ∙ ap (λ m. running n b (word % 256) m q.0) (omega arith))
+    ∙ last-cycle n b (word % 256) (t + suc k) q.0
 
-pub idle-is : (s : State) → IsIdle s → s ≡ idle s.number s.bit
+pub idle-is : (s : State) → IsIdle s → s ≡ idle s.number s.bit s.receiver
 idle-is s i = rw (sym i.enabled, sym i.no_byte, sym i.no_frame) refl
 
 pub leaves_in_time : (s : State) (frame : ℕ) → frame ≡ 10 * s.bit → 0 < s.bit → IsIdle s → (t word : ℕ) → LeavesInTime s frame t word
 leaves_in_time s frame e p i t word = record {
-  before = λ k h. ap (λ u. (given_at u t word k).event) (idle-is s i) ∙ quiet-before s.number s.bit t word k p (omega arith);
-  at = ap (λ u. (given_at u t word (frame - 1)).event) (idle-is s i) ∙ sent-at s.number s.bit t word (frame - 1) p (omega arith);
+  before = λ k h. ap (λ u. (given_at u t word k).event) (idle-is s i) ∙ quiet-before s.number s.bit t word k s.receiver p (omega arith);
+  at = ap (λ u. (given_at u t word (frame - 1)).event) (idle-is s i) ∙ sent-at s.number s.bit t word (frame - 1) s.receiver p (omega arith);
 }

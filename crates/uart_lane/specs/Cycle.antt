@@ -6,6 +6,7 @@ use Rattle.chip_base.specs.declared.message.Down.{Down}
 use Rattle.chip_base.specs.declared.message.Down.TheVariants.{Reset, Set}
 use Rattle.chip_base.specs.declared.message.Up.{Up}
 use Rattle.chip_base.specs.Prescalers.{prescaler_of}
+use Rattle.uart_lane.specs.Receiving.{Received, receive}
 use Rattle.uart_lane.specs.State.{State, reset_state}
 
 -- what a cycle gives: the unit after it, a message to the front, and an event
@@ -66,12 +67,30 @@ ended s now (byte ∷ rest) = record {
 abbrev pub sent : State → ℕ → Given
 sent s now = if s.left == 0 then quiet s else if s.left == 1 then ended s now s.fifo else quiet (record s { left = s.left - 1 })
 
--- a Reset drops the frame and the bytes that wait
-abbrev pub reset : State → Given
-reset s = record { unit = reset_state s.number; up = Some done_up; event = None }
+-- the received byte goes up beside what the transmitter says
+abbrev pub with_byte : Option Up → Option ℕ → Option Up
+with_byte up None = up
+with_byte None (Some byte) = Some (record { done = false; fire = false; credit = false; has = true; word = byte })
+with_byte (Some up) (Some byte) = Some (record up { has = true; word = byte })
 
--- one cycle: the message first, then the transmitter
+-- what the receiver does after the transmitter, whose event it hears
+abbrev pub heard_by : Given → ℕ → Received
+heard_by g now = receive g.unit.receiver now g.event g.unit.enabled (frame_of g.unit)
+
+-- both parts of a cycle together
+abbrev pub received : Given → ℕ → Given
+received g now = record {
+  unit = record g.unit { receiver = (heard_by g now).receiver };
+  up = with_byte g.up (heard_by g now).byte;
+  event = g.event;
+}
+
+-- a Reset drops both frames and the bytes that wait to be sent
+abbrev pub reset : State → Given
+reset s = record { unit = reset_state s.number s.receiver; up = Some done_up; event = None }
+
+-- one cycle: the message first, then the transmitter, then the receiver
 unfoldable pub unit_cycle : State → ℕ → Option Down → Given
-unit_cycle s now None = sent (begun s) now
+unit_cycle s now None = received (sent (begun s) now) now
 unit_cycle s now (Some Reset) = reset s
-unit_cycle s now (Some (Set reg word)) = sent (begun (set_in s reg word)) now
+unit_cycle s now (Some (Set reg word)) = received (sent (begun (set_in s reg word)) now) now

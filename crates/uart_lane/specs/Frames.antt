@@ -20,7 +20,7 @@ unit_before s t word (suc k) = (unit_cycle (unit_before s t word k) (t + k) (onl
 abbrev pub given_at : State → ℕ → ℕ → ℕ → Given
 given_at s t word k = unit_cycle (unit_before s t word k) (t + k) (only_first word k)
 
--- the unit is enabled, and has nothing to send
+-- the unit is enabled, and has nothing to send; what it receives doesn't matter
 pub record IsIdle (s : State) : Type 0 where
   pub enabled : s.enabled ≡ true
   pub no_byte : s.fifo ≡ []

@@ -1,5 +1,7 @@
 -- The state of a UART unit.
 use Rattle.std.specs.Prelude.{ℕ, Bool, false, List, []}
+use Rattle.chip_base.specs.declared.script.UartStep.{UartStep}
+use Rattle.uart_lane.specs.Receiver.{Receiver, at_first, dropped}
 
 pub record State : Type 0 where
   -- the unit's number in events
@@ -11,7 +13,13 @@ pub record State : Type 0 where
   pub fifo : List ℕ
   -- how many cycles are left of the frame; no frame runs at 0
   pub left : ℕ
+  -- what the unit receives
+  pub receiver : Receiver
 
--- the reset state: disabled, with the settings of a control word of zero
-abbrev pub reset_state : ℕ → State
-reset_state number = record { number = number; enabled = false; bit = 2; fifo = []; left = 0 }
+-- disabled, with the settings of a control word of zero, and without a frame; the script's place stays
+abbrev pub reset_state : ℕ → Receiver → State
+reset_state number receiver = record { number = number; enabled = false; bit = 2; fifo = []; left = 0; receiver = dropped receiver }
+
+-- the unit at power-on, with these steps to come and these bytes for an image step
+abbrev pub power_on : ℕ → List UartStep → List ℕ → State
+power_on number steps image = reset_state number (at_first steps image)

@@ -1,6 +1,7 @@
 //! The UART unit: a byte goes out bit by bit, at the pace that its control word sets.
 #![tactic(auto)]
 
+mod receiver;
 #[cfg(test)]
 mod tests;
 pub mod uart;

@@ -1,5 +1,8 @@
 use crate::Uart;
-use chip_base::{Bytes, Cycle, Down, Event, EventKind, Steps0, UnitOut, Up};
+use chip_base::{Bytes, Cycle, Down, Event, EventKind, Steps0, UartStep, UnitOut, Up};
+use std::alloc::Global;
+use std::process::Abort;
+use std::test::Fail;
 
 const fn set(reg: u8, word: u32) -> Option<Down> {
     Some(Down::Set { reg, word })
@@ -54,4 +57,162 @@ fn frames(rt: HostRuntime) {
             assert_eq!(rt; out, wanted, "in {now}");
         }
     }
+}
+
+fn bytes(alloc: Global, text: &[u8]) -> Result<Bytes, Fail> {
+    Ok(Bytes::from_vec(Vec::from_slice(alloc, text)?))
+}
+
+fn sends(alloc: Global, text: &[u8]) -> Result<UartStep, Fail> {
+    Ok(UartStep::Send(bytes(alloc, text)?))
+}
+
+fn expects(alloc: Global, text: &[u8]) -> Result<UartStep, Fail> {
+    Ok(UartStep::Expect(bytes(alloc, text)?))
+}
+
+/// Enables a unit with frames of twenty cycles.
+const ENABLE: Down = Down::Set { reg: 0, word: 1 };
+
+const fn data(byte: u32) -> Down {
+    Down::Set { reg: 4, word: byte }
+}
+
+/// Gives uart0 with these steps and the image `yz` these messages, and looks for exactly these received bytes in 200 cycles.
+fn receives(
+    rt: &impl Abort,
+    alloc: Global,
+    steps: Vec<UartStep>,
+    downs: &[(Cycle, Down)],
+    wanted: &[(Cycle, u32)],
+) -> Result<(), Fail> {
+    let steps = Steps0::from_vec(steps).expect(rt, "a valid script");
+    let mut uart = Uart::new(1, steps, bytes(alloc, b"yz")?);
+    for now in 0..200 {
+        let mut down = None;
+        for (cycle, message) in downs {
+            if *cycle == now {
+                down = Some(*message);
+            }
+        }
+        let mut byte = None;
+        for (cycle, word) in wanted {
+            if *cycle == now {
+                byte = Some(*word);
+            }
+        }
+        let received = match uart.cycle(now, down).up {
+            Some(up) if up.has => Some(up.word),
+            _ => None,
+        };
+        assert_eq!(rt; received, byte, "in {now}");
+    }
+    Ok(())
+}
+
+/// A frame begins where the unit is enabled. Two sends and an image follow one another without a gap.
+#[test]
+fn bytes_of_the_script(rt: HostRuntime) -> Result<(), Fail> {
+    let alloc = rt.alloc();
+    let steps = vec![in alloc; sends(alloc, b"AB")?, UartStep::Image, sends(alloc, b"c")?]?;
+    let wanted = [(24, 0x41), (44, 0x42), (64, 0x79), (84, 0x7a), (104, 0x63)];
+    receives(&rt, alloc, steps, &[(5, ENABLE)], &wanted)
+}
+
+/// Steps that pass at once take a cycle each, also a send of no byte.
+#[test]
+fn a_step_in_a_cycle(rt: HostRuntime) -> Result<(), Fail> {
+    let alloc = rt.alloc();
+    let steps = vec![in alloc;
+        UartStep::At(0),
+        UartStep::At(1),
+        UartStep::At(0),
+        sends(alloc, b"")?,
+        sends(alloc, b"x")?,
+    ]?;
+    receives(&rt, alloc, steps, &[(0, ENABLE)], &[(23, 0x78)])
+}
+
+/// The bytes A and B leave in the cycles 20 and 40. The text AB passes in cycle 40, and x begins in cycle 41.
+#[test]
+fn text_of_two_frames(rt: HostRuntime) -> Result<(), Fail> {
+    let alloc = rt.alloc();
+    let steps = vec![in alloc; expects(alloc, b"AB")?, sends(alloc, b"x")?]?;
+    let downs = [(0, ENABLE), (1, data(0x41)), (2, data(0x42))];
+    receives(&rt, alloc, steps, &downs, &[(60, 0x78)])
+}
+
+/// A byte counts for the step that is current before its cycle. A step that waits for cycle 39 leaves the one of cycle 40 to the
+/// next step, and one that waits for cycle 40 doesn't.
+#[test]
+fn byte_of_the_current_step(rt: HostRuntime) -> Result<(), Fail> {
+    let alloc = rt.alloc();
+    let downs = [(0, ENABLE), (1, data(0x41)), (2, data(0x42))];
+    let heard = vec![in alloc;
+        UartStep::At(39),
+        expects(alloc, b"B")?,
+        sends(alloc, b"x")?,
+    ]?;
+    receives(&rt, alloc, heard, &downs, &[(60, 0x78)])?;
+    let late = vec![in alloc;
+        UartStep::At(40),
+        expects(alloc, b"B")?,
+        sends(alloc, b"x")?,
+    ]?;
+    receives(&rt, alloc, late, &downs, &[])
+}
+
+/// A Reset in cycle 10 drops the frame of x. It counts as sent, also where it was the last of its step, which then passes in
+/// cycle 11.
+#[test]
+fn frame_that_a_reset_drops(rt: HostRuntime) -> Result<(), Fail> {
+    let alloc = rt.alloc();
+    let downs = [(0, ENABLE), (10, Down::Reset), (11, ENABLE)];
+    let two = vec![in alloc; sends(alloc, b"xy")?, sends(alloc, b"z")?]?;
+    receives(&rt, alloc, two, &downs, &[(30, 0x79), (50, 0x7a)])?;
+    let one = vec![in alloc; sends(alloc, b"x")?, sends(alloc, b"z")?]?;
+    receives(&rt, alloc, one, &downs, &[(31, 0x7a)])
+}
+
+/// A text may begin before a Reset and end after it: A leaves in cycle 20, B in cycle 46.
+#[test]
+fn text_around_a_reset(rt: HostRuntime) -> Result<(), Fail> {
+    let alloc = rt.alloc();
+    let steps = vec![in alloc; expects(alloc, b"AB")?, sends(alloc, b"x")?]?;
+    let downs = [
+        (0, ENABLE),
+        (1, data(0x41)),
+        (25, Down::Reset),
+        (26, ENABLE),
+        (27, data(0x42)),
+    ];
+    receives(&rt, alloc, steps, &downs, &[(66, 0x78)])
+}
+
+/// In cycle 60 the byte C has left and x was received: one message says both.
+#[test]
+fn both_in_one_message(rt: HostRuntime) -> Result<(), Fail> {
+    let alloc = rt.alloc();
+    let steps = vec![in alloc; expects(alloc, b"B")?, sends(alloc, b"x")?]?;
+    let steps = Steps0::from_vec(steps).expect(&rt, "a valid script");
+    let mut uart = Uart::new(1, steps, bytes(alloc, b"")?);
+    for now in 0..60 {
+        let down = match now {
+            0 => Some(ENABLE),
+            1 => Some(data(0x41)),
+            2 => Some(data(0x42)),
+            3 => Some(data(0x43)),
+            _ => None,
+        };
+        uart.cycle(now, down);
+    }
+    let wanted = Up {
+        done: false,
+        fire: false,
+        credit: true,
+        has: true,
+        word: 0x78,
+    };
+    assert_eq!(rt; uart.cycle(60, None).up, Some(wanted));
+    Ok(())
 }

@@ -1,7 +1,9 @@
 //! The UART unit, one cycle at a time.
-ghost use Rattle.std.specs.Prelude.{◌≡◌, ◌<◌, ◌≤◌, []};
+ghost use Rattle.std.specs.Prelude.{◌≡◌, ◌<◌, ◌≤◌, IfSome};
 ghost use Rattle.chip_base.specs.Prescalers.{prescaler_of};
+ghost use Rattle.uart_lane.specs.Cycle.{with_byte};
 
+use crate::receiver::Receiver;
 use arrayvec::ArrayVec;
 use chip_base::{Bytes, Cycle, Down, Event, EventKind, Steps0, UnitOut, Up};
 use std::marker::Model;
@@ -24,15 +26,24 @@ const DONE: Up = Up {
     word: 0,
 };
 
+/// Says nothing.
+const SILENT: Up = Up {
+    done: false,
+    fire: false,
+    credit: false,
+    has: false,
+    word: 0,
+};
+
 /// A cycle in which nothing leaves the unit.
 const QUIET: UnitOut = UnitOut {
     up: None,
     event: None,
 };
 
-/// A UART unit: it sends the bytes that it is given, one frame of ten bits after another.
+/// A UART unit: it sends the bytes that it is given, and receives those of a script, one frame of ten bits after another.
 ///
-/// At most sixteen bytes wait; one more is lost. No call takes memory.
+/// At most sixteen bytes wait to be sent; one more is lost. No call takes memory.
 #[derive(Drop)]
 pub struct Uart {
     number: u8,
@@ -40,6 +51,7 @@ pub struct Uart {
     bit: u32,
     fifo: ArrayVec<u8, 16>,
     left: u32,
+    receiver: Receiver,
 }
 
 impl Model for Uart {
@@ -49,7 +61,7 @@ impl Model for Uart {
 
     ghost Value = { State };
 
-    ghost view = { λ u. record { number = u.number; enabled = u.enabled; bit = u.bit; fifo = u.fifo.items; left = u.left } };
+    ghost view = { λ u. record { number = u.number; enabled = u.enabled; bit = u.bit; fifo = u.fifo.items; left = u.left; receiver = u.receiver } };
 
     ghost invariant = { λ u. (0 < u.bit) × (u.bit ≤ 4194304) × (array_vec_len u.fifo ≤ 16) × (0 < u.left → 0 < array_vec_len u.fifo) };
 }
@@ -72,16 +84,36 @@ fn prescaler(control: u32) -> u32
     }
 }
 
+/// What goes up: what the transmitter says, and beside it a received byte.
+fn with_byte(up: Option<Up>, byte: Option<u8>) -> Option<Up>
+    ensures { result ≡ with_byte up byte }
+{
+    let Some(byte) = byte else {
+        return up;
+    };
+    let beside = match up {
+        Some(up) => up,
+        None => SILENT,
+    };
+    Some(Up {
+        has: true,
+        word: u32::from(byte),
+        ..beside
+    })
+}
+
 impl Uart {
-    ghost use Rattle.uart_lane.specs.State.{reset_state};
-    ghost use Rattle.uart_lane.specs.Cycle.{configured, appended, set_in, frame_of, begun, ended, sent, reset, unit_cycle};
+    ghost use Rattle.uart_lane.specs.State.{power_on, reset_state};
+    ghost use Rattle.uart_lane.specs.Cycle.{configured, appended, set_in, frame_of, begun, ended, sent, received, reset, unit_cycle};
     ghost use Rattle.uart_lane.specs.Counts.{KeepsCount, KeepsOrder};
     ghost use Rattle.uart_lane.specs.Frames.{SendsInTime};
+    ghost use Rattle.uart_lane.specs.Script.{HearsEnough, KeepsScript};
 
-    /// The unit with this number (1 to 7, as in events) at power-on. It has no script, so its image isn't read.
-    pub fn new(unit: u8, steps: Steps0, _image: Bytes) -> Uart
-        requires no_script { steps ≡ [] }
-        ensures { result ≡ reset_state unit }
+    /// The unit with this number (1 to 7, as in events) at power-on. It receives what these steps say; an image step sends the
+    /// bytes of `image`.
+    pub fn new(unit: u8, steps: Steps0, image: Bytes) -> Uart
+        ensures state { result ≡ power_on unit steps image }
+        ensures texts { HearsEnough }
     {
         Uart {
             number: unit,
@@ -89,6 +121,7 @@ impl Uart {
             bit: 2,
             fifo: ArrayVec::new(),
             left: 0,
+            receiver: Receiver::new(steps, image),
         }
     }
 
@@ -118,12 +151,13 @@ impl Uart {
     }
 
     fn reset(&mut self)
-        ensures { self.new ≡ reset_state self.old.number }
+        ensures { self.new ≡ reset_state self.old.number self.old.receiver }
     {
         self.enabled = false;
         self.bit = 2;
         self.fifo.clear();
         self.left = 0;
+        self.receiver.reset();
     }
 
     /// How many cycles a frame takes by the present control word. A byte that an idle unit is given in the cycle `t` has its
@@ -148,6 +182,7 @@ impl Uart {
         ensures unit { self.new ≡ (ended self.old now self.old.fifo).unit }
         ensures up { result.up ≡ (ended self.old now self.old.fifo).up }
         ensures event { result.event ≡ (ended self.old now self.old.fifo).event }
+        ensures byte { IfSome result.event (λ e. e.value < 256) }
     {
         self.left = 0;
         let byte = self.fifo.remove(0);
@@ -166,6 +201,7 @@ impl Uart {
         ensures unit { self.new ≡ (sent self.old now).unit }
         ensures up { result.up ≡ (sent self.old now).up }
         ensures event { result.event ≡ (sent self.old now).event }
+        ensures byte { IfSome result.event (λ e. e.value < 256) }
     {
         match self.left {
             0 => QUIET,
@@ -181,9 +217,25 @@ impl Uart {
         ensures unit { self.new ≡ (sent (begun self.old) now).unit }
         ensures up { result.up ≡ (sent (begun self.old) now).up }
         ensures event { result.event ≡ (sent (begun self.old) now).event }
+        ensures byte { IfSome result.event (λ e. e.value < 256) }
     {
         self.begin();
         self.send(now)
+    }
+
+    fn work(&mut self, now: Cycle) -> UnitOut
+        ensures unit { self.new ≡ (received (sent (begun self.old) now) now).unit }
+        ensures up { result.up ≡ (received (sent (begun self.old) now) now).up }
+        ensures event { result.event ≡ (received (sent (begun self.old) now) now).event }
+        ensures bit { 0 < self.new.bit }
+    {
+        let out = self.transmit(now);
+        let frame = self.frame();
+        let byte = self.receiver.cycle(now, out.event, self.enabled, frame);
+        UnitOut {
+            up: with_byte(out.up, byte),
+            event: out.event,
+        }
     }
 
     /// One cycle: takes the message that arrives in it, if there is one, and gives what leaves the unit.
@@ -194,6 +246,7 @@ impl Uart {
         ensures event { result.event ≡ (unit_cycle self.old now down).event }
         ensures count { KeepsCount self.old down self.new result.up }
         ensures order { KeepsOrder self.old down self.new result.event }
+        ensures script { KeepsScript self.old down self.new result.up }
     {
         match down {
             Some(Down::Reset) => {
@@ -205,9 +258,9 @@ impl Uart {
             }
             Some(Down::Set { reg, word }) => {
                 self.set(reg, word);
-                self.transmit(now)
+                self.work(now)
             }
-            None => self.transmit(now),
+            None => self.work(now),
         }
     }
 }

@@ -1,4 +1,4 @@
-use Rattle.std.proofs.Common.{◌≡◌, ◌/◌, length, arith, ap}
+use Rattle.std.proofs.Common.{◌≡◌, arith}
 use Rattle.soc_words.proofs.Texts.{joined_below-zero, joined_below-more}
 use Rattle.bench_shelf.proofs.Writing.{writes_begin, writes_then, loop_exit}
 use Rattle.neo_cli.specs.Bank.{base_of, bytes_of}

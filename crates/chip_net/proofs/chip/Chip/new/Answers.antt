@@ -3,10 +3,10 @@ use Rattle.chip_base.specs.Settings.{values_of}
 use Rattle.chip_net.proofs.chip.Chip.new.Goals as goal
 
 pub returns-clause-credits : goal.returns-clause-credits
-returns-clause-credits c = credits_of_setup c.args.setup.now c.args.image.items c.args.script.pins
+returns-clause-credits c = credits_of_setup c.args.setup.now c.args.image.items c.args.script
 
 pub returns-clause-order : goal.returns-clause-order
-returns-clause-order c = events_ordered (values_of c.args.setup.now) c.args.image.items c.args.script.pins
+returns-clause-order c = events_ordered (values_of c.args.setup.now) c.args.image.items c.args.script
 
 pub returns-clause-none_lost : goal.returns-clause-none_lost
-returns-clause-none_lost c = none_lost_of_setup c.args.setup.now c.args.image.items c.args.script.pins
+returns-clause-none_lost c = none_lost_of_setup c.args.setup.now c.args.image.items c.args.script

@@ -1,0 +1,5 @@
+use Rattle.uart_lane.proofs.Heard.{hears_enough}
+use Rattle.uart_lane.proofs.uart.Uart.new.Goals as goal
+
+pub returns-clause-texts : goal.returns-clause-texts
+returns-clause-texts c = hears_enough
