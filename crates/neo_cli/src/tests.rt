@@ -595,82 +595,103 @@ fn refuses_scripts(rt: HostRuntime) -> Result<(), AllocError> {
 #[test]
 fn refuses_files_in_order(rt: HostRuntime) -> Result<(), AllocError> {
     let large = zero_bytes(rt.alloc(), 65_537)?;
-    let long = zero_bytes(rt.alloc(), 1_048_577)?;
-    for (words, chip, script, failing_reads, status, text) in [
+    for (words, chip, failing_reads, status, text) in [
         (
             "run prog.bin 0 --boot raw --chip other.toml --script up.txt",
-            b"".as_slice(),
-            b"jump".as_slice(),
-            [0].as_slice(),
+            "",
+            [0],
             3,
             "error read other.toml\n",
         ),
         (
             "run other.bin 0 --boot raw --chip chip.toml --script up.txt",
-            large.as_slice(),
-            b"jump",
-            &[0],
-            3,
-            "error long chip.toml\n",
-        ),
-        (
-            "run other.bin 0 --boot raw --chip chip.toml --script up.txt",
-            b"imem = 131072\n",
-            b"jump",
-            &[0],
+            "imem = 131072\n",
+            [0],
             3,
             "error read other.bin\n",
         ),
         (
             "run prog.bin 0 --boot raw --chip chip.toml --script up.txt",
-            b"imem = 4096\n",
-            b"jump",
-            &[0],
+            "imem = 4096\n",
+            [0],
             4,
             "error image size 65537\n",
         ),
         (
-            "run prog.bin 0 --boot raw --chip chip.toml --script up.txt",
-            b"imem = 131072\n",
-            long.as_slice(),
-            &[0],
-            3,
-            "error long up.txt\n",
-        ),
-        (
             "run prog.bin 0 --boot raw --chip chip.toml --script other.txt",
-            b"imem = 131072\n",
-            b"",
-            &[0],
+            "imem = 131072\n",
+            [0],
             3,
             "error read other.txt\n",
         ),
         (
             "run prog.bin 0 --boot raw --chip chip.toml --script up.txt",
-            b"imem = 131072\n",
-            b"jump",
-            &[3],
+            "imem = 131072\n",
+            [1],
+            3,
+            "error read chip.toml\n",
+        ),
+        (
+            "run prog.bin 0 --boot raw --chip chip.toml --script up.txt",
+            "imem = 131072\n",
+            [2],
+            3,
+            "error read prog.bin\n",
+        ),
+        (
+            "run prog.bin 0 --boot raw --chip chip.toml --script up.txt",
+            "imem = 131072\n",
+            [3],
             3,
             "error read up.txt\n",
         ),
         (
             "run prog.bin 0 --boot raw --chip chip.toml --script up.txt",
-            b"imem = 131072\n",
-            b"jump",
-            &[2],
-            3,
-            "error read prog.bin\n",
+            "imem = 131072\n",
+            [0],
+            5,
+            "error script line 1 word\n",
         ),
     ] {
         let case = Case {
             words,
             file: &large,
-            chip,
-            script,
-            failing_reads,
+            chip: chip.as_bytes(),
+            script: b"jump",
+            failing_reads: &failing_reads,
             failing_puts: &[],
         };
         assert!(&rt; answers(&rt, rt.alloc(), &case, status, text)?, "{text}");
     }
+    Ok(())
+}
+
+#[test]
+fn limits_chip_files(rt: HostRuntime) -> Result<(), AllocError> {
+    let chip = zero_bytes(rt.alloc(), 65_537)?;
+    let case = Case {
+        words: "run other.bin 0 --boot raw --chip chip.toml --script up.txt",
+        file: &[],
+        chip: &chip,
+        script: b"jump",
+        failing_reads: &[],
+        failing_puts: &[],
+    };
+    assert!(&rt; answers(&rt, rt.alloc(), &case, 3, "error long chip.toml\n")?);
+    Ok(())
+}
+
+#[test]
+fn limits_scripts(rt: HostRuntime) -> Result<(), AllocError> {
+    let script = zero_bytes(rt.alloc(), 1_048_577)?;
+    let case = Case {
+        words: "run prog.bin 0 --boot raw --script up.txt",
+        file: &[],
+        chip: &[],
+        script: &script,
+        failing_reads: &[],
+        failing_puts: &[],
+    };
+    assert!(&rt; answers(&rt, rt.alloc(), &case, 3, "error long up.txt\n")?);
     Ok(())
 }
