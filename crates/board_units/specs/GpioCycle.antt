@@ -1,6 +1,7 @@
 -- One cycle of the unit of the general-purpose pins.
 use Rattle.std.specs.Prelude.{◌==◌, ℕ, ◌^◌, nat_le, List, [], ◌∷◌, Option, None, Some, if◌then◌else◌, bit_and, bit_or}
 use Rattle.std.specs.Int.{w32, bit_not}
+use Rattle.chip_base.specs.Given.{Given}
 use Rattle.chip_base.specs.declared.event.Event.{Event}
 use Rattle.chip_base.specs.declared.message.Down.{Down}
 use Rattle.chip_base.specs.declared.message.Down.TheVariants.{Reset, Set}
@@ -8,12 +9,6 @@ use Rattle.chip_base.specs.declared.message.Up.{Up}
 use Rattle.chip_base.specs.declared.script.PinStep.{PinStep}
 use Rattle.board_units.specs.GpioState.{GpioState}
 use Rattle.board_units.specs.Messages.{change_event, done_with, word_up}
-
--- what a cycle gives: the unit after it, a message to the front, and an event
-pub record GpioGiven : Type 0 where
-  pub unit : GpioState
-  pub up : Option Up
-  pub event : Option Event
 
 -- the inputs after one pin change
 abbrev pub with_level : ℕ → PinStep → ℕ
@@ -46,7 +41,7 @@ input_up before after (Some Reset) = Some (done_with after)
 input_up before after (Some (Set reg word)) = if before == after then None else Some (word_up after)
 
 -- one cycle: the pins first, then the message
-unfoldable pub gpio_cycle : GpioState → ℕ → Option Down → GpioGiven
+unfoldable pub gpio_cycle : GpioState → ℕ → Option Down → Given GpioState
 gpio_cycle s now down = record {
   unit = record (moved s now) { outputs = outputs_after s.outputs down };
   up = input_up s.inputs (moved s now).inputs down;

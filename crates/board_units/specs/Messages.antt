@@ -3,18 +3,15 @@ use Rattle.std.specs.Prelude.{◌==◌, ℕ, true, false, Option, None, Some, if
 use Rattle.chip_base.specs.declared.event.Event.{Event}
 use Rattle.chip_base.specs.declared.event.EventKind.TheVariants.{Out}
 use Rattle.chip_base.specs.declared.message.Up.{Up}
+use Rattle.chip_base.specs.Messages.{done_up, silent_up, with_word}
 
 -- a word goes up
 abbrev pub word_up : ℕ → Up
-word_up word = record { done = false; fire = false; credit = false; has = true; word = word }
-
--- says that a Reset was done
-abbrev pub done_up : Up
-done_up = record { done = true; fire = false; credit = false; has = false; word = 0 }
+word_up word = with_word silent_up word
 
 -- says that a Reset was done, and carries a word
 abbrev pub done_with : ℕ → Up
-done_with word = record { done = true; fire = false; credit = false; has = true; word = word }
+done_with word = with_word done_up word
 
 -- the event of a unit whose outputs changed in a cycle
 abbrev pub change_event : ℕ → ℕ → ℕ → ℕ → Option Event

@@ -1,18 +1,14 @@
 -- One cycle of the pulse-width modulation unit.
 use Rattle.std.specs.Prelude.{◌==◌, ℕ, ◌+◌, ◌%◌, ◌^◌, Bool, ◌&&◌, nat_lt, nat_le, get_or, set, Option, None, Some, if◌then◌else◌}
+use Rattle.chip_base.specs.Given.{Given}
 use Rattle.chip_base.specs.declared.event.Event.{Event}
 use Rattle.chip_base.specs.declared.message.Down.{Down}
 use Rattle.chip_base.specs.declared.message.Down.TheVariants.{Reset, Set}
 use Rattle.chip_base.specs.declared.message.Up.{Up}
+use Rattle.chip_base.specs.Messages.{done_up}
 use Rattle.chip_base.specs.Prescalers.{prescaler_of}
-use Rattle.board_units.specs.Messages.{change_event, done_up}
+use Rattle.board_units.specs.Messages.{change_event}
 use Rattle.board_units.specs.PwmState.{PwmState, reset_state}
-
--- what a cycle gives: the unit after it, a message to the front, and an event
-pub record PwmGiven : Type 0 where
-  pub unit : PwmState
-  pub up : Option Up
-  pub event : Option Event
 
 -- a new control word
 abbrev pub configured : PwmState → ℕ → PwmState
@@ -51,15 +47,15 @@ counted s =
     else record s { count = 0; step = 0 }
 
 -- the outputs of this cycle, and the count after it
-abbrev pub shown : PwmState → ℕ → PwmGiven
+abbrev pub shown : PwmState → ℕ → Given PwmState
 shown s now = record { unit = counted (record s { mask = mask_of s }); up = None; event = change_event now 5 s.mask (mask_of s) }
 
 -- a Reset makes all outputs low
-abbrev pub reset : PwmState → ℕ → PwmGiven
+abbrev pub reset : PwmState → ℕ → Given PwmState
 reset s now = record { unit = reset_state; up = Some done_up; event = change_event now 5 s.mask 0 }
 
 -- one cycle: the message first, then the outputs
-unfoldable pub pwm_cycle : PwmState → ℕ → Option Down → PwmGiven
+unfoldable pub pwm_cycle : PwmState → ℕ → Option Down → Given PwmState
 pwm_cycle s now None = shown s now
 pwm_cycle s now (Some Reset) = reset s now
 pwm_cycle s now (Some (Set reg word)) = shown (set_in s reg word) now

@@ -1,27 +1,17 @@
 //! What the units say in a cycle.
 ghost use Rattle.std.specs.Prelude.{◌≡◌};
-ghost use Rattle.board_units.specs.Messages.{change_event, done_up, done_with, word_up};
+ghost use Rattle.board_units.specs.Messages.{change_event, done_with, word_up};
 
 use chip_base::{Cycle, Event, EventKind, Up};
-
-/// Says that a Reset was done.
-pub(crate) const DONE: Up = Up {
-    done: true,
-    fire: false,
-    credit: false,
-    has: false,
-    word: 0,
-};
 
 /// A word goes up.
 pub(crate) fn with_word(word: u32) -> Up
     ensures { result ≡ word_up word }
 {
     Up {
-        done: false,
         has: true,
         word,
-        ..DONE
+        ..Up::SILENT
     }
 }
 
@@ -32,7 +22,7 @@ pub(crate) fn done_and(word: u32) -> Up
     Up {
         has: true,
         word,
-        ..DONE
+        ..Up::DONE
     }
 }
 

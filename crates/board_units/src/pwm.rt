@@ -1,9 +1,9 @@
 //! The pulse-width modulation unit, one cycle at a time.
 ghost use Rattle.std.specs.Prelude.{◌≡◌, ◌≤◌, ◌<◌, ◌*◌, ◌^◌, if◌then◌else◌};
-ghost use Rattle.chip_base.specs.Prescalers.{prescaler_of};
 
-use crate::messages::{DONE, change};
-use chip_base::{Cycle, Down, UnitOut};
+use crate::messages::change;
+use chip_base::prescaler::prescaler;
+use chip_base::{Cycle, Down, UnitOut, Up};
 use std::marker::Model;
 
 /// The unit's number in events.
@@ -31,24 +31,6 @@ impl Model for Pwm {
     ghost view = { λ p. record { enabled = p.enabled; prescaler = p.prescaler; duties = p.duties; count = p.count; step = p.step; mask = p.mask } };
 
     ghost invariant = { λ p. (length p.duties ≡ 4) × (0 < p.prescaler) × (p.prescaler ≤ 4096) × (p.count ≤ 4096) × (p.step < 256) };
-}
-
-/// The prescaler that bits 3 to 5 of a control word select.
-fn prescaler(control: u32) -> u32
-    ensures value { result ≡ prescaler_of control }
-    ensures from { 0 < result }
-    ensures to { result ≤ 4096 }
-{
-    match control / 8 % 8 {
-        0 => 2,
-        1 => 4,
-        2 => 8,
-        3 => 64,
-        4 => 128,
-        5 => 1024,
-        6 => 2048,
-        _ => 4096,
-    }
 }
 
 impl Pwm {
@@ -160,7 +142,7 @@ impl Pwm {
         let event = change(now, NUMBER, self.mask, 0);
         *self = Pwm::new();
         UnitOut {
-            up: Some(DONE),
+            up: Some(Up::DONE),
             event,
         }
     }

@@ -1,3 +1,5 @@
+pub mod Bits
+pub mod Given
 pub mod Groups
 pub mod Messages
 pub mod Prescalers

@@ -1,5 +1,6 @@
--- What the messages between a front and its unit carry, as counts: an entry down and a credit up, a Reset down and its answer up.
-use Rattle.std.specs.Prelude.{ℕ, ◌==◌, Option, None, Some, if◌then◌else◌}
+-- What the messages between a front and its unit say, and what they carry as counts: an entry down and a credit up, a Reset down and its
+-- answer up.
+use Rattle.std.specs.Prelude.{ℕ, ◌==◌, true, false, Option, None, Some, if◌then◌else◌}
 use Rattle.chip_base.specs.declared.message.Down.{Down}
 use Rattle.chip_base.specs.declared.message.Down.TheVariants.{Reset, Set}
 use Rattle.chip_base.specs.declared.message.Up.{Up}
@@ -25,3 +26,19 @@ reset_in (Some (Set reg word)) = 0
 abbrev pub done_in : Option Up → ℕ
 done_in None = 0
 done_in (Some up) = if up.done then 1 else 0
+
+-- says nothing
+abbrev pub silent_up : Up
+silent_up = record { done = false; fire = false; credit = false; has = false; word = 0 }
+
+-- says that an entry left the unit
+abbrev pub credit_up : Up
+credit_up = record silent_up { credit = true }
+
+-- says that a Reset was done
+abbrev pub done_up : Up
+done_up = record silent_up { done = true }
+
+-- beside what is said, a word goes up
+abbrev pub with_word : Up → ℕ → Up
+with_word up word = record up { has = true; word = word }

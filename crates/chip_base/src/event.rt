@@ -18,7 +18,8 @@ pub enum EventKind {
     Fire,
 }
 
-/// What a unit did at the chip's edge in one cycle. Units are numbered from 1: uart0, uart1, spi, gpio, pwm, slink, wdt.
+/// What a unit did at the chip's edge in one cycle. Units are numbered from 1: uart0, uart1, spi, gpio, pwm, slink, wdt. The value is
+/// the byte that a UART sent, the levels of the output pins or channels as bits, the word that the stream link passed, or 0.
 #[derive(Clone, Copy, Debug, PartialEq, Eq)]
 pub struct Event {
     pub cycle: Cycle,

@@ -1,18 +1,22 @@
 //! Plain types that the crates of the chip share.
 #![tactic(auto)]
 
+pub mod bits;
 pub mod boot;
+pub mod counter;
 pub mod cycle;
 pub mod event;
 pub mod groups;
 pub mod hart;
 pub mod message;
 pub mod names;
+pub mod prescaler;
 pub mod script;
 pub mod setup;
 mod valid;
 
 pub use boot::{Boot, BootView};
+pub use counter::Steps;
 pub use cycle::{Cycle, NoMemory};
 pub use event::{Event, EventKind, UnitOut};
 pub use groups::Groups;

@@ -23,3 +23,26 @@ pub struct Up {
     /// The word, and 0 where none is carried.
     pub word: u32,
 }
+
+impl Up {
+    /// Says nothing. It isn't sent; what is said stands beside it.
+    pub const SILENT: Up = Up {
+        done: false,
+        fire: false,
+        credit: false,
+        has: false,
+        word: 0,
+    };
+
+    /// Says that a Reset was done.
+    pub const DONE: Up = Up {
+        done: true,
+        ..Up::SILENT
+    };
+
+    /// Says that an entry left the unit.
+    pub const CREDIT: Up = Up {
+        credit: true,
+        ..Up::SILENT
+    };
+}

@@ -38,7 +38,9 @@ impl Name {
 
     /// The bytes of the name.
     pub fn as_slice(&self) -> &[u8]
-        ensures { result.now ≡ self.now }
+        ensures value { result.now ≡ self.now }
+        ensures from { 1 ≤ length self.now }
+        ensures to { length self.now ≤ 16 }
     {
         &self.bytes[..self.count]
     }

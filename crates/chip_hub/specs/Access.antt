@@ -1,5 +1,6 @@
 -- An access that was granted.
 use Rattle.std.specs.Prelude.{◌==◌, ℕ, ◌+◌, ◌*◌, ◌/◌, ◌%◌, ◌^◌, Bool, List, [], ◌∷◌, length, Option, Some, None, Result, Ok, Err, if◌then◌else◌}
+use Rattle.chip_base.specs.Bits.{bit_if}
 use Rattle.chip_base.specs.declared.message.Down.{Down}
 use Rattle.core_pair.specs.Clint.{clint_word, clint_stored}
 use Rattle.core_pair.specs.Mailbox.{mailbox_word, mailbox_stored}
@@ -43,10 +44,6 @@ part_of_word r word = word / 2 ^ (8 * (r.addr % 4)) % 2 ^ (8 * width_bytes r.wid
 -- the offset of a register in a part of the map of this size in bytes
 abbrev pub offset_in : ℕ → Request → ℕ
 offset_in size r = 4 * (r.addr / 4) % size
-
--- a bit of a word, where it is set
-abbrev pub bit_if : ℕ → Bool → ℕ
-bit_if bit set = if set then 2 ^ bit else 0
 
 abbrev pub memory_stored : State → Result Memories BusFault → Accessed
 memory_stored s (Ok m) = done (record s { memory = m }) silent

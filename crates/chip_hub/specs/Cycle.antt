@@ -1,5 +1,6 @@
 -- One cycle of the hub.
 use Rattle.std.specs.Prelude.{◌==◌, ℕ, ◌+◌, Bool, List, ◌++◌, drop, length, Option, Some, None, Result, Ok, Err, if◌then◌else◌, is_some, get_or}
+use Rattle.chip_base.specs.Bits.{bit_if}
 use Rattle.chip_base.specs.declared.boot.BootView.{BootView}
 use Rattle.chip_base.specs.declared.boot.BootView.TheVariants.{Raw}
 use Rattle.chip_base.specs.declared.hart.HartView.{HartView}
@@ -24,7 +25,7 @@ use Rattle.dma_unit.specs.Copier.{reset_copier, wanted as dma_wanted, granted_wi
 use Rattle.unit_fronts.specs.GpioFront.{PinRegisters, arrived as pins_arrived, reset_owing as pins_reset}
 use Rattle.unit_fronts.specs.Port.{Port, arrived, reset_owing}
 use Rattle.unit_fronts.specs.PwmFront.{DutyRegisters, arrived as duty_arrived, reset_owing as duty_reset}
-use Rattle.chip_hub.specs.Access.{Accessed, accessed, bit_if, silent}
+use Rattle.chip_hub.specs.Access.{Accessed, accessed, silent}
 use Rattle.chip_hub.specs.Lines.{mip_of}
 use Rattle.chip_hub.specs.State.{State, Step}
 

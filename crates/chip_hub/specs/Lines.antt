@@ -4,7 +4,7 @@ use Rattle.core_pair.specs.Clint.{clint_mip}
 use Rattle.dma_unit.specs.Copier.{line_of as dma_line}
 use Rattle.unit_fronts.specs.GpioFront.{line_of as pins_line}
 use Rattle.unit_fronts.specs.Port.{line_of}
-use Rattle.chip_hub.specs.Access.{bit_if}
+use Rattle.chip_base.specs.Bits.{bit_if}
 use Rattle.chip_hub.specs.State.{State}
 
 -- the fast lines, which both harts see alike: line 0 is bit 16 of mip. The DMA is line 0, uart0 line 1, uart1 line 2 and gpio line 4

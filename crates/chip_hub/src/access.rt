@@ -9,7 +9,8 @@ ghost use Rattle.chip_hub.specs.Access.{offset_in, open_word, silent};
 ghost use Rattle.chip_hub.specs.Access.{accessed, in_clint, in_device, in_dma, in_gpio, in_mailbox, in_memory, in_pwm, in_region, in_sysinfo, in_uart0, in_uart1, sysinfo_word};
 
 use crate::hub::Hub;
-use crate::parts::{bit_if, offset_in, part_of_word};
+use crate::parts::{offset_in, part_of_word};
+use chip_base::bits::bit_if;
 use chip_base::Down;
 use soc_bus::{BusFault, Region, Request, admit};
 

@@ -8,7 +8,7 @@ ghost use Rattle.chip_hub.specs.State.{Step};
 
 use crate::access::SILENT;
 use crate::hub::Hub;
-use crate::parts::bit_if;
+use chip_base::bits::bit_if;
 use chip_base::{Cycle, Down, Up};
 use core_pair::Phase;
 use soc_bus::Master;

@@ -1,6 +1,6 @@
 //! Small parts of the hub's accesses.
 ghost use Rattle.std.specs.Prelude.{◌≡◌, ◌+◌, ◌*◌, ◌/◌, ◌<◌, ◌≤◌, ◌^◌, length};
-ghost use Rattle.chip_hub.specs.Access.{bit_if, offset_in, part_of_word};
+ghost use Rattle.chip_hub.specs.Access.{offset_in, part_of_word};
 
 use soc_bus::{Request, Width};
 
@@ -22,12 +22,4 @@ pub fn offset_in(size: u32, request: &Request) -> u32
     ensures { result ≡ offset_in size request.now }
 {
     4 * (request.addr / 4) % size
-}
-
-/// The bit of a unit, where it is set.
-pub fn bit_if(bit: u32, set: bool) -> u32
-    requires { bit < 32 }
-    ensures { result ≡ bit_if bit set }
-{
-    if set { 1 << bit } else { 0 }
 }

@@ -9,7 +9,8 @@ use Rattle.board_units.specs.PwmState.{PwmState}
 use Rattle.chip_base.specs.declared.event.Event.{Event}
 use Rattle.chip_base.specs.declared.message.Down.{Down}
 use Rattle.chip_base.specs.declared.message.Down.TheVariants.{Reset, Set}
-use Rattle.uart_lane.specs.Cycle.{Given, appended, begun, ended, may_begin, received, sent, set_in, unit_cycle}
+use Rattle.chip_base.specs.Given.{Given}
+use Rattle.uart_lane.specs.Cycle.{appended, begun, ended, may_begin, received, sent, set_in, unit_cycle}
 use Rattle.uart_lane.specs.State.{State as Uart}
 use Rattle.chip_net.specs.Order.{AreOrdered, AreOrderedBefore, ArePast, Precedes}
 
@@ -90,7 +91,7 @@ are_past now events h = record { order = h.order; past = all_past events h.befor
 -- what a cycle of a UART tells
 
 -- its number stays, and its event is of its number and of this cycle
-pub record TellsOfItself (s : Uart) (now : ℕ) (g : Given) : Type 0 where
+pub record TellsOfItself (s : Uart) (now : ℕ) (g : Given Uart) : Type 0 where
   pub number : g.unit.number ≡ s.number
   pub event : ToldAt s.number now g.event
 

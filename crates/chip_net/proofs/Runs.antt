@@ -48,8 +48,3 @@ after_sum c m zero = ap (after c) (omega arith)
 after_sum c m (suc n) =
     let more : m + suc n ≡ suc (m + n) = omega arith in
     ap (after c) more ∙ ap tick (after_sum c m n)
-
--- a run of a chip whose earlier events were laid aside in front of it goes on with the whole run
-pub run_goes_on : (c whole : State) (before : List Event) (m n : ℕ) → record c { events = before } ≡ after whole m
-    → record (after (record c { events = [] }) n) { events = before ++ (after (record c { events = [] }) n).events } ≡ after whole (m + n)
-run_goes_on c whole before m n h = sym (after_events c before n) ∙ ap (λ s. after s n) h ∙ sym (after_sum whole m n)

@@ -1,9 +1,10 @@
 -- The chip: the hub and its units, joined by delay lines and stepped at once.
 use Rattle.std.specs.Prelude.{ℕ, zero, suc, List, [], ◌∷◌, ◌++◌, Option, None, get_or, option_to_list}
-use Rattle.board_units.specs.GpioCycle.{GpioGiven, gpio_cycle}
+use Rattle.board_units.specs.GpioCycle.{gpio_cycle}
 use Rattle.board_units.specs.GpioState.{GpioState, power_on as pins_on}
-use Rattle.board_units.specs.PwmCycle.{PwmGiven, pwm_cycle}
+use Rattle.board_units.specs.PwmCycle.{pwm_cycle}
 use Rattle.board_units.specs.PwmState.{PwmState, reset_state as pwm_reset}
+use Rattle.chip_base.specs.Given.{Given}
 use Rattle.chip_base.specs.declared.event.Event.{Event}
 use Rattle.chip_base.specs.declared.message.Down.{Down}
 use Rattle.chip_base.specs.declared.message.Up.{Up}
@@ -13,7 +14,7 @@ use Rattle.chip_hub.specs.Cycle.{hub_cycle, start as hub_start}
 use Rattle.chip_hub.specs.State.{State as Hub, Step}
 use Rattle.delay_line.specs.Queue.{empty_line}
 use Rattle.soc_words.specs.Line.{first_of, moved}
-use Rattle.uart_lane.specs.Cycle.{Given, unit_cycle}
+use Rattle.uart_lane.specs.Cycle.{unit_cycle}
 use Rattle.uart_lane.specs.State.{State as Uart, power_on}
 
 pub record State : Type 0 where
@@ -41,7 +42,7 @@ abbrev pub arriving : State → List (Option Up)
 arriving c = first_of c.up_uart0 ∷ first_of c.up_uart1 ∷ None ∷ first_of c.up_gpio ∷ first_of c.up_pwm ∷ None ∷ None ∷ []
 
 -- the chip after a cycle, by what the hub and each unit give in it
-abbrev pub stepped : State → Step → Given → Given → GpioGiven → PwmGiven → State
+abbrev pub stepped : State → Step → Given Uart → Given Uart → Given GpioState → Given PwmState → State
 stepped c h uart0 uart1 gpio pwm = record {
   hub = h.hub;
   uart0 = uart0.unit;

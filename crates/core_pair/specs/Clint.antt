@@ -1,5 +1,6 @@
 -- The timer and the software interrupts.
 use Rattle.std.specs.Prelude.{◌==◌, ℕ, ◌+◌, ◌-◌, ◌*◌, ◌/◌, ◌%◌, ◌^◌, Bool, List, [], ◌∷◌, nat_le, if◌then◌else◌}
+use Rattle.chip_base.specs.Bits.{high_of, high_set, low_of, low_set}
 use Rattle.std.specs.List.{list_any}
 
 -- for each hart the bit of its software interrupt and the time at which its timer interrupt comes, and the time
@@ -21,20 +22,6 @@ is_among offsets offset = list_any (λ o. o == offset) offsets
 -- the state at reset: no interrupt comes before the time is at its last value
 abbrev pub reset_clint : ClintState
 reset_clint = record { msip0 = 0; msip1 = 0; mtimecmp0 = 2 ^ 64 - 1; mtimecmp1 = 2 ^ 64 - 1; mtime = 0 }
-
--- the low and the high word of a number of 64 bits
-abbrev pub low_of : ℕ → ℕ
-low_of n = n % 2 ^ 32
-
-abbrev pub high_of : ℕ → ℕ
-high_of n = n / 2 ^ 32
-
--- the number with another low word, and with another high word
-abbrev pub low_set : ℕ → ℕ → ℕ
-low_set n word = n / 2 ^ 32 * 2 ^ 32 + word
-
-abbrev pub high_set : ℕ → ℕ → ℕ
-high_set n word = word * 2 ^ 32 + n % 2 ^ 32
 
 -- what a load of a register gives
 abbrev pub clint_word : ClintState → ℕ → ℕ

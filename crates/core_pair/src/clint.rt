@@ -2,7 +2,7 @@
 ghost use Rattle.std.specs.Prelude.{◌≡◌, ◌==◌, ◌+◌, ◌*◌, ◌%◌, ◌^◌, ◌<◌, ◌≤◌, nat_le, IsTrue, if◌then◌else◌};
 ghost use Rattle.core_pair.specs.Clint.{clint_mip, clint_offsets, clint_stored, clint_ticked, clint_word, is_among, lines, reset_clint};
 
-use csr_file::counter::{high_word, low_word, with_high, with_low};
+use chip_base::bits::{high_word, low_word, with_high, with_low};
 use std::marker::Model;
 
 /// For each hart the bit of its software interrupt and the time of its timer interrupt, and the time in cycles. The registers

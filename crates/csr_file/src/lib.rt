@@ -1,7 +1,6 @@
 //! The control and status registers of a hart, its traps and its interrupts.
 #![tactic(auto)]
 
-pub mod counter;
 pub mod file;
 pub mod names;
 

@@ -1,5 +1,6 @@
 -- The copier: what it keeps, its registers, and what a grant does.
 use Rattle.std.specs.Prelude.{ℕ, ◌+◌, ◌-◌, ◌/◌, ◌%◌, ◌^◌, ◌==◌, ◌&&◌, ◌||◌, Bool, true, false, Option, Some, None, Result, Ok, Err, if◌then◌else◌}
+use Rattle.chip_base.specs.Bits.{bit_if}
 use Rattle.soc_words.specs.Word.{wrapped_sum}
 use Rattle.soc_bus.specs.declared.access.BusFault.{BusFault}
 use Rattle.soc_bus.specs.declared.access.Request.{Request}
@@ -55,10 +56,6 @@ is_done other = false
 abbrev pub is_fault : DmaState → Bool
 is_fault Fault = true
 is_fault other = false
-
--- this bit of a word, where it is set
-abbrev pub bit_if : ℕ → Bool → ℕ
-bit_if bit set = if set then 2 ^ bit else 0
 
 -- a word has this bit
 abbrev pub has_bit : ℕ → ℕ → Bool

@@ -3,6 +3,7 @@ ghost use Rattle.std.specs.Prelude.{◌≡◌, ◌⊎◌, IsSome, IsNone, true, 
 ghost use Rattle.dma_unit.specs.Copier.{address_after, state_before};
 
 use crate::state::DmaState;
+use chip_base::bits::bit_if;
 use soc_bus::{BusFault, Request, Width};
 use std::marker::Model;
 
@@ -32,13 +33,6 @@ impl Model for Dma {
     ghost view = { λ d. record { interrupt = d.interrupt; source_fixed = d.source_fixed; destination_fixed = d.destination_fixed; state = d.state; source = d.source; destination = d.destination; count = d.count; fault = d.fault; word = d.word } };
 
     ghost invariant = { λ d. (is_busy d.state ≡ true → 0 < d.count) × (d.source < 2 ^ 32) × (d.destination < 2 ^ 32) };
-}
-
-/// This bit of a word, where it is set.
-fn bit_if(bit: u32, set: bool) -> u32
-    ensures { result ≡ (if set then bit else 0) }
-{
-    if set { bit } else { 0 }
 }
 
 /// The address after a word's, or the same one where it is fixed.
@@ -94,12 +88,12 @@ impl Dma {
     fn control(&self) -> u32
         ensures { result ≡ control_of self.now }
     {
-        bit_if(1, self.state.is_busy())
-            + bit_if(1 << 1, self.interrupt)
-            + bit_if(1 << 2, self.source_fixed)
-            + bit_if(1 << 3, self.destination_fixed)
-            + bit_if(1 << 8, self.state == DmaState::Done)
-            + bit_if(1 << 9, self.state == DmaState::Fault)
+        bit_if(0, self.state.is_busy())
+            + bit_if(1, self.interrupt)
+            + bit_if(2, self.source_fixed)
+            + bit_if(3, self.destination_fixed)
+            + bit_if(8, self.state == DmaState::Done)
+            + bit_if(9, self.state == DmaState::Fault)
     }
 
     /// Loads the register at an offset: CTRL 0, SRC 4, DST 8, COUNT 12, FAULT 16.

@@ -6,11 +6,12 @@ use Rattle.chip_base.specs.declared.message.Down.TheVariants.{Reset, Set}
 use Rattle.chip_base.specs.declared.message.Up.{Up}
 use Rattle.chip_base.specs.Messages.{data_in, credit_in, done_in}
 use Rattle.uart_lane.specs.State.{State}
-use Rattle.uart_lane.specs.Cycle.{Given, appended, set_in, may_begin, begun, ended, sent, heard_by, received, with_byte, unit_cycle}
+use Rattle.chip_base.specs.Given.{Given}
+use Rattle.uart_lane.specs.Cycle.{appended, set_in, may_begin, begun, ended, sent, heard_by, received, with_byte, unit_cycle}
 use Rattle.uart_lane.specs.Counts.{KeepsCount}
 
 -- the bytes in the unit and the credit that goes up
-abbrev pub counted : Given → ℕ
+abbrev pub counted : Given State → ℕ
 counted g = length g.unit.fifo + credit_in g.up
 
 ended-count : (s : State) (now : ℕ) (fifo : List ℕ) → fifo ≡ s.fifo → counted (ended s now fifo) ≡ length fifo
@@ -79,10 +80,10 @@ same-done (Some up) None = refl
 same-done (Some up) (Some b) = refl
 
 -- nor does the receiver change what is counted
-pub received-count : (g : Given) (now : ℕ) → counted (received g now) ≡ counted g
+pub received-count : (g : Given State) (now : ℕ) → counted (received g now) ≡ counted g
 received-count g now = ap (λ n. length g.unit.fifo + n) (same-credit g.up (heard_by g now).byte)
 
-pub received-done : (g : Given) (now : ℕ) → done_in (received g now).up ≡ done_in g.up
+pub received-done : (g : Given State) (now : ℕ) → done_in (received g now).up ≡ done_in g.up
 received-done g now = same-done g.up (heard_by g now).byte
 
 -- the transmitter and the receiver together

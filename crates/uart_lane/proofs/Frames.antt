@@ -5,7 +5,8 @@ use Rattle.chip_base.specs.declared.event.EventKind.TheVariants.{Tx}
 use Rattle.chip_base.specs.declared.message.Down.TheVariants.{Set}
 use Rattle.uart_lane.specs.Receiver.{Receiver}
 use Rattle.uart_lane.specs.State.{State}
-use Rattle.uart_lane.specs.Cycle.{Given, quiet, sent, received, unit_cycle}
+use Rattle.chip_base.specs.Given.{Given}
+use Rattle.uart_lane.specs.Cycle.{quiet, sent, received, unit_cycle}
 use Rattle.uart_lane.specs.Frames.{only_first, unit_before, given_at, IsIdle, LeavesInTime}
 
 -- an idle unit
@@ -17,7 +18,7 @@ abbrev pub running : ℕ → ℕ → ℕ → ℕ → Receiver → State
 running number bit byte left r = record { number = number; enabled = true; bit = bit; fifo = byte ∷ []; left = left; receiver = r }
 
 -- what a cycle gives in which no byte leaves
-abbrev pub waited : ℕ → ℕ → ℕ → ℕ → ℕ → Receiver → Given
+abbrev pub waited : ℕ → ℕ → ℕ → ℕ → ℕ → Receiver → Given State
 waited n b byte m now r = received (quiet (running n b byte m r)) now
 
 pub not_equal : (a b : ℕ) → b < a → eqb a b ≡ false

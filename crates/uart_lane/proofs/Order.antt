@@ -5,12 +5,13 @@ use Rattle.chip_base.specs.declared.message.Down.{Down}
 use Rattle.chip_base.specs.declared.message.Down.TheVariants.{Reset, Set}
 use Rattle.chip_base.specs.Messages.{data_in}
 use Rattle.uart_lane.specs.State.{State}
-use Rattle.uart_lane.specs.Cycle.{Given, set_in, begun, ended, sent, unit_cycle}
+use Rattle.chip_base.specs.Given.{Given}
+use Rattle.uart_lane.specs.Cycle.{set_in, begun, ended, sent, unit_cycle}
 use Rattle.uart_lane.specs.Counts.{bytes_in, bytes_out, KeepsOrder}
 use Rattle.uart_lane.proofs.Counts.{begun-fifo, is_less, not_four}
 
 -- what left, and what waits
-abbrev pub told : Given → List ℕ
+abbrev pub told : Given State → List ℕ
 told g = bytes_out g.event ++ g.unit.fifo
 
 ended-told : (s : State) (now : ℕ) (fifo : List ℕ) → fifo ≡ s.fifo → told (ended s now fifo) ≡ fifo

@@ -11,7 +11,8 @@ use Rattle.chip_base.specs.declared.message.Down.TheVariants.{Reset, Set}
 use Rattle.chip_base.specs.declared.message.Up.{Up}
 use Rattle.chip_base.specs.declared.script.UartStep.{UartStep}
 use Rattle.chip_base.specs.declared.script.UartStep.TheVariants.{At, Expect, Send, Image}
-use Rattle.uart_lane.specs.Cycle.{Given, appended, begun, ended as sent_last, frame_of, heard_by, may_begin, received, sent, set_in, unit_cycle, with_byte}
+use Rattle.chip_base.specs.Given.{Given}
+use Rattle.uart_lane.specs.Cycle.{appended, begun, ended as sent_last, frame_of, heard_by, may_begin, received, sent, set_in, unit_cycle, with_byte}
 use Rattle.uart_lane.specs.Receiver.{Receiver}
 use Rattle.uart_lane.specs.Receiving.{bytes_of, current, ended, framed, heard_with, is_sent, looked, passed, passes, ready, receive, run}
 use Rattle.uart_lane.specs.Script.{KeepsScript, byte_up, not_begun, sent_by, to_come}
@@ -158,7 +159,7 @@ receive_steps r now event enabled frame =
 
 -- the transmitter leaves the receiver, and takes no byte up
 
-record LeavesReceiver (s : State) (g : Given) : Type 0 where
+record LeavesReceiver (s : State) (g : Given State) : Type 0 where
   receiver : g.unit.receiver ≡ s.receiver
   up : byte_up g.up ≡ []
 
@@ -196,11 +197,11 @@ set_receiver s reg word false true p q = rw (p, q) (appended_receiver s _ _ refl
 set_receiver s reg word false false p q = rw (p, q) refl
 
 -- what both parts of a cycle do
-record WorksAlong (s : State) (g : Given) : Type 0 where
+record WorksAlong (s : State) (g : Given State) : Type 0 where
   bytes : to_come s.receiver ≡ byte_up g.up ++ to_come g.unit.receiver
   steps : PassesOne s.receiver.steps g.unit.receiver.steps
 
-received_along : (s : State) (g : Given) (now : ℕ) → LeavesReceiver s g → 0 < g.unit.bit → WorksAlong s (received g now)
+received_along : (s : State) (g : Given State) (now : ℕ) → LeavesReceiver s g → 0 < g.unit.bit → WorksAlong s (received g now)
 received_along s g now l p = record {
   bytes = ap to_come (sym l.receiver)
       ∙ receive_keeps g.unit.receiver now g.event g.unit.enabled (frame_of g.unit) (omega (arith, p))

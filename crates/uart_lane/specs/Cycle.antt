@@ -5,15 +5,11 @@ use Rattle.chip_base.specs.declared.event.EventKind.TheVariants.{Tx}
 use Rattle.chip_base.specs.declared.message.Down.{Down}
 use Rattle.chip_base.specs.declared.message.Down.TheVariants.{Reset, Set}
 use Rattle.chip_base.specs.declared.message.Up.{Up}
+use Rattle.chip_base.specs.Given.{Given}
+use Rattle.chip_base.specs.Messages.{credit_up, done_up, silent_up, with_word}
 use Rattle.chip_base.specs.Prescalers.{prescaler_of}
 use Rattle.uart_lane.specs.Receiving.{Received, receive}
 use Rattle.uart_lane.specs.State.{State, reset_state}
-
--- what a cycle gives: the unit after it, a message to the front, and an event
-pub record Given : Type 0 where
-  pub unit : State
-  pub up : Option Up
-  pub event : Option Event
 
 -- the cycles of a bit by a control word: prescaler times baud + 1
 abbrev pub bit_of : ℕ → ℕ
@@ -43,19 +39,11 @@ abbrev pub begun : State → State
 begun s = if may_begin s then record s { left = frame_of s } else s
 
 -- a cycle in which nothing leaves the unit
-abbrev pub quiet : State → Given
+abbrev pub quiet : State → Given State
 quiet s = record { unit = s; up = None; event = None }
 
--- says that a byte left, so that one more may come
-abbrev pub credit_up : Up
-credit_up = record { done = false; fire = false; credit = true; has = false; word = 0 }
-
--- says that a Reset was done
-abbrev pub done_up : Up
-done_up = record { done = true; fire = false; credit = false; has = false; word = 0 }
-
 -- the frame's last cycle: its byte leaves
-abbrev pub ended : State → ℕ → List ℕ → Given
+abbrev pub ended : State → ℕ → List ℕ → Given State
 ended s now [] = quiet (record s { left = 0 })
 ended s now (byte ∷ rest) = record {
   unit = record s { fifo = rest; left = 0 };
@@ -64,21 +52,21 @@ ended s now (byte ∷ rest) = record {
 }
 
 -- a frame that runs loses one cycle
-abbrev pub sent : State → ℕ → Given
+abbrev pub sent : State → ℕ → Given State
 sent s now = if s.left == 0 then quiet s else if s.left == 1 then ended s now s.fifo else quiet (record s { left = s.left - 1 })
 
 -- the received byte goes up beside what the transmitter says
 abbrev pub with_byte : Option Up → Option ℕ → Option Up
 with_byte up None = up
-with_byte None (Some byte) = Some (record { done = false; fire = false; credit = false; has = true; word = byte })
-with_byte (Some up) (Some byte) = Some (record up { has = true; word = byte })
+with_byte None (Some byte) = Some (with_word silent_up byte)
+with_byte (Some up) (Some byte) = Some (with_word up byte)
 
 -- what the receiver does after the transmitter, whose event it hears
-abbrev pub heard_by : Given → ℕ → Received
+abbrev pub heard_by : Given State → ℕ → Received
 heard_by g now = receive g.unit.receiver now g.event g.unit.enabled (frame_of g.unit)
 
 -- both parts of a cycle together
-abbrev pub received : Given → ℕ → Given
+abbrev pub received : Given State → ℕ → Given State
 received g now = record {
   unit = record g.unit { receiver = (heard_by g now).receiver };
   up = with_byte g.up (heard_by g now).byte;
@@ -86,11 +74,11 @@ received g now = record {
 }
 
 -- a Reset drops both frames and the bytes that wait to be sent
-abbrev pub reset : State → Given
+abbrev pub reset : State → Given State
 reset s = record { unit = reset_state s.number s.receiver; up = Some done_up; event = None }
 
 -- one cycle: the message first, then the transmitter, then the receiver
-unfoldable pub unit_cycle : State → ℕ → Option Down → Given
+unfoldable pub unit_cycle : State → ℕ → Option Down → Given State
 unit_cycle s now None = received (sent (begun s) now) now
 unit_cycle s now (Some Reset) = reset s
 unit_cycle s now (Some (Set reg word)) = received (sent (begun (set_in s reg word)) now) now

@@ -4,7 +4,8 @@ use Rattle.chip_base.specs.declared.event.EventKind.TheVariants.{Tx}
 use Rattle.chip_base.specs.declared.message.Down.{Down}
 use Rattle.chip_base.specs.declared.message.Down.TheVariants.{Set}
 use Rattle.uart_lane.specs.State.{State}
-use Rattle.uart_lane.specs.Cycle.{Given, unit_cycle}
+use Rattle.chip_base.specs.Given.{Given}
+use Rattle.uart_lane.specs.Cycle.{unit_cycle}
 
 -- the message of the cycle that is k cycles after the one in which this word comes for the byte's register
 abbrev pub only_first : ℕ → ℕ → Option Down
@@ -17,7 +18,7 @@ unit_before s t word zero = s
 unit_before s t word (suc k) = (unit_cycle (unit_before s t word k) (t + k) (only_first word k)).unit
 
 -- what the cycle t + k gives then
-abbrev pub given_at : State → ℕ → ℕ → ℕ → Given
+abbrev pub given_at : State → ℕ → ℕ → ℕ → Given State
 given_at s t word k = unit_cycle (unit_before s t word k) (t + k) (only_first word k)
 
 -- the unit is enabled, and has nothing to send; what it receives doesn't matter

@@ -1,39 +1,12 @@
 //! The UART unit, one cycle at a time.
 ghost use Rattle.std.specs.Prelude.{◌≡◌, ◌<◌, ◌≤◌, IfSome};
-ghost use Rattle.chip_base.specs.Prescalers.{prescaler_of};
 ghost use Rattle.uart_lane.specs.Cycle.{with_byte};
 
 use crate::receiver::Receiver;
 use arrayvec::ArrayVec;
+use chip_base::prescaler::prescaler;
 use chip_base::{Bytes, Cycle, Down, Event, EventKind, Steps0, UnitOut, Up};
 use std::marker::Model;
-
-/// Says that a byte left, so that one more may come.
-const CREDIT: Up = Up {
-    done: false,
-    fire: false,
-    credit: true,
-    has: false,
-    word: 0,
-};
-
-/// Says that a Reset was done.
-const DONE: Up = Up {
-    done: true,
-    fire: false,
-    credit: false,
-    has: false,
-    word: 0,
-};
-
-/// Says nothing.
-const SILENT: Up = Up {
-    done: false,
-    fire: false,
-    credit: false,
-    has: false,
-    word: 0,
-};
 
 /// A cycle in which nothing leaves the unit.
 const QUIET: UnitOut = UnitOut {
@@ -66,24 +39,6 @@ impl Model for Uart {
     ghost invariant = { λ u. (0 < u.bit) × (u.bit ≤ 4194304) × (array_vec_len u.fifo ≤ 16) × (0 < u.left → 0 < array_vec_len u.fifo) };
 }
 
-/// The prescaler that bits 3 to 5 of a control word select.
-fn prescaler(control: u32) -> u32
-    ensures value { result ≡ prescaler_of control }
-    ensures from { 0 < result }
-    ensures to { result ≤ 4096 }
-{
-    match control / 8 % 8 {
-        0 => 2,
-        1 => 4,
-        2 => 8,
-        3 => 64,
-        4 => 128,
-        5 => 1024,
-        6 => 2048,
-        _ => 4096,
-    }
-}
-
 /// What goes up: what the transmitter says, and beside it a received byte.
 fn with_byte(up: Option<Up>, byte: Option<u8>) -> Option<Up>
     ensures { result ≡ with_byte up byte }
@@ -93,7 +48,7 @@ fn with_byte(up: Option<Up>, byte: Option<u8>) -> Option<Up>
     };
     let beside = match up {
         Some(up) => up,
-        None => SILENT,
+        None => Up::SILENT,
     };
     Some(Up {
         has: true,
@@ -187,7 +142,7 @@ impl Uart {
         self.left = 0;
         let byte = self.fifo.remove(0);
         UnitOut {
-            up: Some(CREDIT),
+            up: Some(Up::CREDIT),
             event: Some(Event {
                 cycle: now,
                 unit: self.number,
@@ -252,7 +207,7 @@ impl Uart {
             Some(Down::Reset) => {
                 self.reset();
                 UnitOut {
-                    up: Some(DONE),
+                    up: Some(Up::DONE),
                     event: None,
                 }
             }

@@ -1,5 +1,6 @@
 -- What the fronts of the serial units keep: control bits, received entries, credits and the answers that they wait for.
 use Rattle.std.specs.Prelude.{◌==◌, ℕ, ◌+◌, ◌-◌, ◌/◌, ◌%◌, ◌^◌, Bool, true, false, ◌&&◌, nat_lt, min, List, [], ◌∷◌, ◌++◌, length, drop, get_or, if◌then◌else◌}
+use Rattle.chip_base.specs.Bits.{bit_if}
 use Rattle.chip_base.specs.declared.message.Up.{Up}
 use Rattle.unit_fronts.specs.Owed.{is_open_at, one_more}
 
@@ -24,10 +25,6 @@ is_open_of s = is_open_at s.owed
 
 abbrev pub has_received : Port → Bool
 has_received s = nat_lt 0 (length s.received)
-
--- this bit of a word, where it is set
-abbrev pub bit_if : ℕ → Bool → ℕ
-bit_if bit set = if set then 2 ^ bit else 0
 
 -- CTRL as a load gives it: the kept bits, receive not empty, transmit full, overrun and busy
 abbrev pub control_of : Port → ℕ

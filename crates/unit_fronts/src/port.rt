@@ -4,10 +4,8 @@ ghost use Rattle.std.specs.Prelude.{◌≡◌, ◌<◌, ◌^◌, nat_lt, not, if
 use crate::owed::Owed;
 use arrayvec::ArrayVec;
 use chip_base::Up;
+use chip_base::bits::bit_if;
 use std::marker::Model;
-
-/// How many entries a unit, or a front, holds.
-const ROOM: usize = 16;
 
 /// Control bits, received entries, credits and owed answers of a front.
 #[derive(Drop)]
@@ -29,13 +27,6 @@ impl Model for Port {
     ghost view = { λ p. record { kept = p.kept; overrun = p.overrun; received = p.received.items; credits = p.credits; owed = p.owed } };
 
     ghost invariant = { λ p. (p.kept < 2 ^ 23) × (array_vec_len p.received ≤ 16) × (p.credits ≤ 16) };
-}
-
-/// This bit of a word, where it is set.
-fn bit_if(bit: u32, set: bool) -> u32
-    ensures { result ≡ (if set then bit else 0) }
-{
-    if set { bit } else { 0 }
 }
 
 impl Port {
@@ -72,10 +63,10 @@ impl Port {
         ensures { result ≡ control_of self.now }
     {
         self.kept
-            + bit_if(1 << 16, self.has_received())
-            + bit_if(1 << 21, self.credits == 0)
-            + bit_if(1 << 30, self.overrun)
-            + bit_if(1 << 31, self.credits < 16)
+            + bit_if(16, self.has_received())
+            + bit_if(21, self.credits == 0)
+            + bit_if(30, self.overrun)
+            + bit_if(31, self.credits < 16)
     }
 
     /// Keeps the bits of a store to CTRL, and forgets an overrun.
