@@ -1,65 +1,71 @@
--- Texts of groups of lanes: groups separated by slashes, their lanes by commas.
-use Rattle.std.specs.Prelude.{ℕ, suc, ◌+◌, ◌==◌, Bool, true, false, List, [], ◌∷◌, ◌++◌, Option, Some, None, codes, if◌then◌else◌, option_and_then, slice_get, slice_set, nat_lt}
+-- Texts of groups of lanes: groups between slashes, in each the names of lanes between commas.
+use Rattle.std.specs.Prelude.{ℕ, ◌≡◌, ◌<◌, ◌+◌, ◌==◌, Bool, List, [], ◌∷◌, ◌++◌, All, Contains, map, filter, flat_map, length, slice_index, slice_index_or, IsPermutation, Option, Some, None, codes, if◌then◌else◌, option_map}
+use Rattle.std.specs.List.{slice_split, list_any, list_all, join_with_byte}
 use Rattle.std.specs.Str.{bytes_eq}
 
 -- a text as its bytes
 abbrev pub Text : Type 0
 Text = List ℕ
 
--- a lane's number
-abbrev pub lane_of : Text → Option ℕ
-lane_of name =
-    if bytes_eq name (codes "hub") then Some 0
-    else if bytes_eq name (codes "uart0") then Some 1
-    else if bytes_eq name (codes "uart1") then Some 2
-    else if bytes_eq name (codes "spi") then Some 3
-    else if bytes_eq name (codes "gpio") then Some 4
-    else if bytes_eq name (codes "pwm") then Some 5
-    else if bytes_eq name (codes "slink") then Some 6
-    else if bytes_eq name (codes "wdt") then Some 7
-    else None
+-- the names of the lanes, from lane 0 on
+abbrev pub lane_names : List Text
+lane_names = codes "hub" ∷ codes "uart0" ∷ codes "uart1" ∷ codes "spi" ∷ codes "gpio" ∷ codes "pwm" ∷ codes "slink" ∷ codes "wdt" ∷ []
 
--- for each lane the group that it was put into, where it was
-abbrev pub Places : Type 0
-Places = List (Option ℕ)
+-- whether a name is a lane's
+abbrev pub is_lane : Text → Bool
+is_lane name = list_any (bytes_eq name) lane_names
 
--- no lane stands in a group
-abbrev pub none_yet : Places
-none_yet = None ∷ None ∷ None ∷ None ∷ None ∷ None ∷ None ∷ None ∷ []
+-- the pieces of a text between separators, as `split` gives them: one where there is no separator
+abbrev pub pieces : ℕ → Text → List Text
+pieces separator text = slice_split (λ b. b == separator) text
 
--- the lane put into the group, unless it stands in one
-abbrev pub put_free : ℕ → ℕ → Places → Option (Option ℕ) → Option Places
-put_free lane group places (Some None) = Some (slice_set places lane (Some group))
-put_free lane group places _ = None
+-- the names of each group: between groups stands a slash (47), between names a comma (44)
+abbrev pub named_groups : Text → List (List Text)
+named_groups text = map (pieces 44) (pieces 47 text)
 
--- the same for a lane that a name may not stand for
-abbrev pub put : ℕ → Option ℕ → Places → Option Places
-put group None places = None
-put group (Some lane) places = put_free lane group places (slice_get places lane)
+-- each name with the number of its group, where the first group has this number
+unfoldable pub numbered : ℕ → List (List Text) → List (Text × ℕ)
+numbered number [] = []
+numbered number (names ∷ rest) = map (λ name. (name, number)) names ++ numbered (number + 1) rest
 
--- the rest of the text, where `word` is the lane's name as far as it was read
-unfoldable pub places_of : Text → Text → ℕ → Places → Option Places
-places_of [] word group places = put group (lane_of word) places
-places_of (b ∷ rest) word group places =
-    if b == 44 then option_and_then (places_of rest [] group) (put group (lane_of word) places)
-    else if b == 47 then option_and_then (places_of rest [] (group + 1)) (put group (lane_of word) places)
-    else places_of rest (word ++ b ∷ []) group places
+-- the numbers of the groups in which a lane stands, one for each time that its name stands there
+abbrev pub groups_with : List (Text × ℕ) → Text → List ℕ
+groups_with places lane = map (λ p. p.1) (filter (λ p. bytes_eq p.0 lane) places)
 
--- the groups, where each lane stands in one
-abbrev pub all_placed : Places → Option (List ℕ)
-all_placed [] = Some []
-all_placed (None ∷ rest) = None
-all_placed (Some group ∷ rest) = option_and_then (λ more. Some (group ∷ more)) (all_placed rest)
+-- the element of a list of one element
+abbrev pub only : List ℕ → Option ℕ
+only [] = None
+only (x ∷ []) = Some x
+only (x ∷ y ∷ rest) = None
+
+-- the values, where there is one in each place
+abbrev pub all_some : List (Option ℕ) → Option (List ℕ)
+all_some [] = Some []
+all_some (None ∷ rest) = None
+all_some (Some x ∷ rest) = option_map (λ more. x ∷ more) (all_some rest)
+
+-- the number of each lane's group, where each name is a lane's and each lane stands in one place
+unfoldable pub each_once : List (Text × ℕ) → Option (List ℕ)
+each_once places = if list_all (λ p. is_lane p.0) places then all_some (map (λ lane. only (groups_with places lane)) lane_names) else None
 
 -- the number of each lane's group
 abbrev pub groups_of : Text → Option (List ℕ)
 groups_of text =
     if bytes_eq text (codes "all") then Some (0 ∷ 0 ∷ 0 ∷ 0 ∷ 0 ∷ 0 ∷ 0 ∷ 0 ∷ [])
     else if bytes_eq text (codes "each") then Some (0 ∷ 1 ∷ 2 ∷ 3 ∷ 4 ∷ 5 ∷ 6 ∷ 7 ∷ [])
-    else option_and_then all_placed (places_of text [] 0 none_yet)
+    else each_once (numbered 0 (named_groups text))
 
--- how many lanes stand in a group
-abbrev pub taken : Places → ℕ
-taken [] = 0
-taken (None ∷ rest) = taken rest
-taken (Some group ∷ rest) = 1 + taken rest
+-- In other words: what a list of groups prints is read as these groups.
+
+-- the text of a list of groups of names
+abbrev pub text_of : List (List Text) → Text
+text_of groups = join_with_byte 47 (map (join_with_byte 44) groups)
+
+-- no group is empty, and their names are the lanes' in some order
+pub record IsGrouping (groups : List (List Text)) : Type 0 where
+  pub filled : All (λ names. 0 < length names) groups
+  pub lanes : IsPermutation (flat_map (λ names. names) groups) lane_names
+
+-- each lane has the number of the group in which its name stands
+abbrev pub AreNumbersOf : List (List Text) → List ℕ → Type 0
+AreNumbersOf groups numbers = (lane number : ℕ) → lane < 8 → Contains (slice_index_or groups number []) (slice_index_or lane_names lane []) → slice_index numbers lane ≡ number

@@ -2,6 +2,7 @@ pub mod Bits
 pub mod Given
 pub mod Groups
 pub mod Messages
+pub mod Placing
 pub mod Prescalers
 pub mod Ranges
 pub mod Settings
