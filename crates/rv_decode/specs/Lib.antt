@@ -1,4 +1,3 @@
-pub mod Classes
 pub mod Fields
 pub mod Names
 pub mod Parcels

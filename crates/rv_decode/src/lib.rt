@@ -5,7 +5,6 @@
 //! Instructions", with mret and wfi from Volume II. No call takes memory.
 #![tactic(auto)]
 
-mod class;
 mod decoder;
 mod encoder;
 mod format;
@@ -15,7 +14,6 @@ mod names;
 mod parcel;
 mod parcel_immediate;
 
-pub use class::{is_csr, is_load, is_store};
 pub use decoder::decode;
 pub use instr::{Instr, Op};
 pub use names::name;

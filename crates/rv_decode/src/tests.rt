@@ -1,6 +1,6 @@
 //! Words and parcels as an assembler writes them.
 
-use crate::{Instr, Op, decode, expand, is_csr, is_load, is_store, length, name};
+use crate::{Instr, Op, decode, expand, length, name};
 
 fn instr(op: Op, registers: (u8, u8, u8), imm: u32, csr: u16) -> Instr {
     let (rd, rs1, rs2) = registers;
@@ -94,6 +94,25 @@ fn expands_parcels(rt: HostRuntime) {
 }
 
 #[test]
+fn expands_hints(rt: HostRuntime) {
+    let hints = [
+        // li x0, 1
+        (0x4005, 0x0010_0013),
+        // lui x0, 1
+        (0x6005, 0x0000_1037),
+        // slli x0, x0, 1
+        (0x0006, 0x0010_1013),
+        // add x0, x0, x1
+        (0x8006, 0x0010_0033),
+        // srli x8, x8, 0
+        (0x8001, 0x0004_5413),
+    ];
+    for (half, word) in hints {
+        assert_eq!(rt; expand(half), Some(word), "at {half:04x}");
+    }
+}
+
+#[test]
 fn names_operations(rt: HostRuntime) {
     let names = [
         (Op::Lui, "lui"),
@@ -104,11 +123,4 @@ fn names_operations(rt: HostRuntime) {
     for (op, text) in names {
         assert_eq!(rt; name(op).as_slice(), text.as_bytes());
     }
-}
-
-#[test]
-fn tells_classes(rt: HostRuntime) {
-    assert!(rt; is_load(Op::Lhu) && !is_load(Op::Sh));
-    assert!(rt; is_store(Op::Sb) && !is_store(Op::Lb));
-    assert!(rt; is_csr(Op::Csrrsi) && !is_csr(Op::Ecall));
 }
