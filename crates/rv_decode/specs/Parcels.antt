@@ -22,7 +22,7 @@ pub record Operands : Type 0 where
 abbrev pub given : ℕ → ℕ → ℕ → ℕ → Operands
 given rd rs1 rs2 imm = record { rd = rd; rs1 = rs1; rs2 = rs2; imm = imm }
 
--- the operands as they lie in a word; no parcel stands for a row of the formats that are left out
+-- the operands as they lie in a word; ebreak has no operands, and no parcel stands for a CSR row
 abbrev pub placed_operands : Format → Operands → ℕ
 placed_operands Register o = o.rd * 2 ^ 7 + o.rs1 * 2 ^ 15 + o.rs2 * 2 ^ 20
 placed_operands Immediate o = o.rd * 2 ^ 7 + o.rs1 * 2 ^ 15 + o.imm % 2 ^ 12 * 2 ^ 20

@@ -2,6 +2,7 @@
 
 ghost use Rattle.std.specs.Prelude.{◌≡◌, ◌<◌, ◌^◌, ◌/◌, ◌%◌, Some, None, IfSome};
 ghost use Rattle.rv_decode.specs.declared.format.Format.TheVariants.{Bare};
+ghost use Rattle.rv_decode.specs.declared.instr.Op.{Op};
 ghost use Rattle.rv_decode.specs.Rows.{Row, HasRow, kind_at, operands, instr_of, decoded};
 
 use crate::format::{Format, Kind};
@@ -208,6 +209,23 @@ fn without_operands(op: Op) -> Instr
     }
 }
 
+/// The immediate of a word in a format: the amount of a shift and the number of five bits among them, and 0 where the format has
+/// none.
+fn immediate_of(format: Format, word: u32) -> u32
+    ensures { (op : Op) → result ≡ (operands format op word).imm }
+{
+    match format {
+        Format::Immediate => immediate_i(word),
+        Format::Shift => word >> 20 & 0x1f,
+        Format::Store => immediate_s(word),
+        Format::Branch => immediate_b(word),
+        Format::Upper => immediate_u(word),
+        Format::Jump => immediate_j(word),
+        Format::CsrNumber => word >> 15 & 0x1f,
+        Format::Register | Format::Csr | Format::Bare => 0,
+    }
+}
+
 /// The instruction of a word whose operation and format are known.
 fn operands_of(kind: Kind, word: u32) -> Instr
     ensures value { result ≡ operands kind.format kind.op word }
@@ -218,7 +236,10 @@ fn operands_of(kind: Kind, word: u32) -> Instr
     let rs1 = (word >> 15 & 0x1f) as u8;
     let rs2 = (word >> 20 & 0x1f) as u8;
     let csr = (word >> 20) as u16;
-    let bare = without_operands(kind.op);
+    let bare = Instr {
+        imm: immediate_of(kind.format, word),
+        ..without_operands(kind.op)
+    };
     match kind.format {
         Format::Register => Instr {
             rd,
@@ -226,52 +247,16 @@ fn operands_of(kind: Kind, word: u32) -> Instr
             rs2,
             ..bare
         },
-        Format::Immediate => Instr {
-            rd,
-            rs1,
-            imm: immediate_i(word),
-            ..bare
-        },
-        Format::Shift => Instr {
-            rd,
-            rs1,
-            imm: u32::from(rs2),
-            ..bare
-        },
-        Format::Store => Instr {
-            rs1,
-            rs2,
-            imm: immediate_s(word),
-            ..bare
-        },
-        Format::Branch => Instr {
-            rs1,
-            rs2,
-            imm: immediate_b(word),
-            ..bare
-        },
-        Format::Upper => Instr {
-            rd,
-            imm: immediate_u(word),
-            ..bare
-        },
-        Format::Jump => Instr {
-            rd,
-            imm: immediate_j(word),
-            ..bare
-        },
+        Format::Immediate | Format::Shift => Instr { rd, rs1, ..bare },
+        Format::Store | Format::Branch => Instr { rs1, rs2, ..bare },
+        Format::Upper | Format::Jump => Instr { rd, ..bare },
         Format::Csr => Instr {
             rd,
             rs1,
             csr,
             ..bare
         },
-        Format::CsrNumber => Instr {
-            rd,
-            imm: u32::from(rs1),
-            csr,
-            ..bare
-        },
+        Format::CsrNumber => Instr { rd, csr, ..bare },
         Format::Bare => bare,
     }
 }
