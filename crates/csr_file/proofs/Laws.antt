@@ -1,11 +1,12 @@
--- What a write leaves in the CSR of its number and in the others, and what the table says of reset values and of read-only numbers.
-use Rattle.std.proofs.Common.{◌≡◌, ◌==◌, ℕ, ◌/◌, ◌%◌, ◌^◌, ◌<◌, Bool, true, false, List, [], ◌∷◌, Option, Some, None, IsSome, refl, ap, arith, sym, ◌∙◌, ◌≢◌}
+-- What reads give after a write, a trap, a return and a count, and what the table says of reset values and of read-only numbers.
+use Rattle.std.proofs.Common.{◌≡◌, ◌==◌, ℕ, ◌/◌, ◌%◌, ◌^◌, ◌<◌, Bool, true, false, List, [], ◌∷◌, Option, Some, None, IsSome, refl, ap, arith, sym, ◌∙◌, ◌≢◌, ◌⊎◌, inl, inr, ◌↔◌}
 use Rattle.std.proofs.lemmas.Bool.{eqb-true}
 use Rattle.std.specs.List.{find}
 use Rattle.std.specs.Option.{option_map}
 use mathlib.Core.Bool.{not}
 use Rattle.csr_file.specs.State.{State}
 use Rattle.csr_file.specs.Table.{row_of, word_of, with_word, kept, csr_at, takes, every, fresh, reset_word, read_at, written, written_in, writable, takes_in}
+use Rattle.csr_file.specs.Traps.{after_tick, after_retire}
 use Rattle.csr_file.specs.declared.names.Csr.{Csr}
 
 -- the number of the CSR that a look-up gives
@@ -59,9 +60,22 @@ by_bits_in : (n : ℕ) (o : Option Csr) → csr_at n ≡ o → IsSome o → take
 by_bits_in n None at_n h = grind arith
 by_bits_in n (Some c) at_n h = by_bits c ∙ ap (λ k. not (k / 2 ^ 10 % 4 == 3)) (number_of n c at_n)
 
-pub writable_by_bits : (n : ℕ) → IsSome (csr_at n) → writable n ≡ not (n / 2 ^ 10 % 4 == 3)
+three : (n : ℕ) → not (n / 2 ^ 10 % 4 == 3) ≡ false → n / 2 ^ 10 % 4 ≡ 3
+three n h = grind arith
+
+-- the causes of a refused write
+refusal_in : (n : ℕ) (o : Option Csr) → csr_at n ≡ o → takes_in o ≡ false → (o ≡ None) ⊎ (n / 2 ^ 10 % 4 ≡ 3)
+refusal_in n None at_n h = inl refl
+refusal_in n (Some c) at_n h = inr (three n (sym (by_bits_in n (Some c) at_n refl) ∙ h))
+
+in_refusal : (n : ℕ) (o : Option Csr) → csr_at n ≡ o → (o ≡ None) ⊎ (n / 2 ^ 10 % 4 ≡ 3) → takes_in o ≡ false
+in_refusal n None at_n h = refl
+in_refusal n (Some c) at_n (inl h) = grind arith
+in_refusal n (Some c) at_n (inr h) = by_bits_in n (Some c) at_n refl ∙ ap (λ k. not (k == 3)) h
+
+pub refused_by : (n : ℕ) → (writable n ≡ false) ↔ ((csr_at n ≡ None) ⊎ (n / 2 ^ 10 % 4 ≡ 3))
 unfolding writable
-writable_by_bits n h = by_bits_in n (csr_at n) refl h
+refused_by n = (refusal_in n (csr_at n) refl, in_refusal n (csr_at n) refl)
 
 -- the values at reset
 reset_in : (hart mip : ℕ) (o : Option Csr) → option_map (word_of (fresh hart) mip) o ≡ option_map (λ c. reset_word hart mip (row_of c).reset) o
@@ -71,3 +85,44 @@ reset_in hart mip (Some c) = grind arith
 pub reset_reads : (hart n mip : ℕ) → read_at (fresh hart) n mip ≡ option_map (λ c. reset_word hart mip (row_of c).reset) (csr_at n)
 unfolding read_at
 reset_reads hart n mip = reset_in hart mip (csr_at n)
+
+-- a step that leaves the word of a number's CSR
+same_in : (s t : State) (mip n : ℕ) (o : Option Csr) → csr_at n ≡ o → ((c : Csr) → (row_of c).number ≡ n → word_of t mip c ≡ word_of s mip c) → option_map (word_of t mip) o ≡ option_map (word_of s mip) o
+same_in s t mip n None at_n same = refl
+same_in s t mip n (Some c) at_n same = ap Some (same c (number_of n c at_n))
+
+-- a trap, whatever it makes of mstatus
+trap_word : (s : State) (pc cause value status mip n : ℕ) → n ≢ 0x300 → n ≢ 0x341 → n ≢ 0x342 → n ≢ 0x343 → (c : Csr) → (row_of c).number ≡ n → word_of (record s { mepc = pc; mcause = cause; mtval = value; mstatus = status }) mip c ≡ word_of s mip c
+trap_word s pc cause value status mip n status_apart pc_apart cause_apart value_apart c at_n = grind arith
+
+pub trap_others : (s : State) (pc cause value status n mip : ℕ) → n ≢ 0x300 → n ≢ 0x341 → n ≢ 0x342 → n ≢ 0x343 → read_at (record s { mepc = pc; mcause = cause; mtval = value; mstatus = status }) n mip ≡ read_at s n mip
+unfolding read_at
+trap_others s pc cause value status n mip status_apart pc_apart cause_apart value_apart =
+    same_in s (record s { mepc = pc; mcause = cause; mtval = value; mstatus = status }) mip n (csr_at n) refl (trap_word s pc cause value status mip n status_apart pc_apart cause_apart value_apart)
+
+pub trap_set : (s : State) (mip : ℕ) → (read_at s 0x341 mip ≡ Some s.mepc) × (read_at s 0x342 mip ≡ Some s.mcause) × (read_at s 0x343 mip ≡ Some s.mtval)
+unfolding read_at csr_at
+trap_set s mip = (refl, refl, refl)
+
+-- a return from a trap, whatever it makes of mstatus
+return_word : (s : State) (status mip n : ℕ) → n ≢ 0x300 → (c : Csr) → (row_of c).number ≡ n → word_of (record s { mstatus = status }) mip c ≡ word_of s mip c
+return_word s status mip n apart c at_n = grind arith
+
+pub return_others : (s : State) (status n mip : ℕ) → n ≢ 0x300 → read_at (record s { mstatus = status }) n mip ≡ read_at s n mip
+unfolding read_at
+return_others s status n mip apart = same_in s (record s { mstatus = status }) mip n (csr_at n) refl (return_word s status mip n apart)
+
+-- the counters
+tick_word : (s : State) (mip n : ℕ) → n ≢ 0xb00 → n ≢ 0xb80 → (c : Csr) → (row_of c).number ≡ n → word_of (after_tick s) mip c ≡ word_of s mip c
+tick_word s mip n low_apart high_apart c at_n = grind arith
+
+pub tick_others : (s : State) (n mip : ℕ) → n ≢ 0xb00 → n ≢ 0xb80 → read_at (after_tick s) n mip ≡ read_at s n mip
+unfolding read_at
+tick_others s n mip low_apart high_apart = same_in s (after_tick s) mip n (csr_at n) refl (tick_word s mip n low_apart high_apart)
+
+retire_word : (s : State) (mip n : ℕ) → n ≢ 0xb02 → n ≢ 0xb82 → (c : Csr) → (row_of c).number ≡ n → word_of (after_retire s) mip c ≡ word_of s mip c
+retire_word s mip n low_apart high_apart c at_n = grind arith
+
+pub retire_others : (s : State) (n mip : ℕ) → n ≢ 0xb02 → n ≢ 0xb82 → read_at (after_retire s) n mip ≡ read_at s n mip
+unfolding read_at
+retire_others s n mip low_apart high_apart = same_in s (after_retire s) mip n (csr_at n) refl (retire_word s mip n low_apart high_apart)

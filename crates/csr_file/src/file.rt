@@ -1,14 +1,13 @@
 //! The CSRs of one hart.
-ghost use Rattle.std.specs.Prelude.{◌≡◌, ◌==◌, ℕ, ◌+◌, ◌*◌, ◌/◌, ◌%◌, ◌^◌, ◌<◌, ◌≤◌, IsTrue, if◌then◌else◌, bit_and, nat_lt, None, ◌↔◌, ◌⊎◌, ◌≢◌, IsSome, false};
+ghost use Rattle.std.specs.Prelude.{◌≡◌, ◌==◌, ℕ, ◌+◌, ◌*◌, ◌/◌, ◌%◌, ◌^◌, ◌<◌, ◌≤◌, IsTrue, if◌then◌else◌, bit_and, nat_lt, None, ◌↔◌, ◌⊎◌, ◌≢◌, Some, IfSome, false};
 ghost use Rattle.std.specs.Option.{option_map};
-ghost use mathlib.Core.Bool.{not};
 ghost use Rattle.std.specs.List.{find, list_all};
 ghost use Rattle.std.specs.Int.{bit_at};
 ghost use Rattle.csr_file.specs.Table.{fresh, read_at, written, writable, word_of, with_word, row_of, kept, takes, csr_at, reset_word};
 ghost use Rattle.csr_file.specs.Traps.{enabled, status, first_cause, trapped, target, returned, pending_in, wakes_in, after_tick, after_retire};
 
-use chip_base::bits::{high_word, low_word, with_high, with_low};
 use crate::names::Csr;
+use chip_base::bits::{high_word, low_word, with_high, with_low};
 use std::marker::Model;
 
 /// The numbers of the interrupts, the first taken first.
@@ -32,19 +31,20 @@ pub struct Csrs {
 }
 
 impl Model for Csrs {
-    ghost use Rattle.std.specs.Prelude.{◌≡◌, ◌%◌, bit_and};
+    ghost use Rattle.std.specs.Prelude.{◌≡◌, ◌+◌, bit_and};
     ghost use Rattle.csr_file.specs.State.{State};
 
     ghost Value = { State };
 
     ghost view = { λ s. record { hart = s.hart; mstatus = s.mstatus; mie = s.mie; mtvec = s.mtvec; mscratch = s.mscratch; mepc = s.mepc; mcause = s.mcause; mtval = s.mtval; mcycle = s.mcycle; minstret = s.minstret } };
 
-    ghost invariant = { λ s. (s.mepc % 2 ≡ 0) × (bit_and s.mie 0xffff0888 ≡ s.mie) };
+    ghost invariant = { λ s. (bit_and s.mstatus 0x88 + 0x1800 ≡ s.mstatus) × (bit_and s.mie 0xffff0888 ≡ s.mie) × (bit_and s.mtvec 0xfffffffd ≡ s.mtvec) × (bit_and s.mepc 0xfffffffe ≡ s.mepc) };
 }
 
 /// The status word with MIE and MPIE.
 fn status_word(mie: bool, mpie: bool) -> u32
-    ensures { result ≡ status (if mie then 1 else 0) (if mpie then 1 else 0) }
+    ensures value { result ≡ status (if mie then 1 else 0) (if mpie then 1 else 0) }
+    ensures fixed { bit_and result 0x88 + 0x1800 ≡ result }
 {
     0x1800 + u32::from(mie) * 8 + u32::from(mpie) * 128
 }
@@ -103,7 +103,8 @@ impl Csrs {
     }
 
     fn word(&self, csr: Csr, mip: u32) -> u32
-        ensures { result ≡ word_of self.now mip csr }
+        ensures value { result ≡ word_of self.now mip csr }
+        ensures fixed { kept (row_of csr).rule result result ≡ result }
     {
         match csr {
             Csr::Mstatus => self.mstatus,
@@ -131,6 +132,8 @@ impl Csrs {
     pub fn read(&self, addr: u16, mip: u32) -> Option<u32>
         ensures word { result ≡ read_at self.now addr mip }
         ensures none { (result ≡ None) ↔ (csr_at addr ≡ None) }
+        // a write of the word that is read would keep it: its fixed bits are fixed
+        ensures fixed { (c : Csr) → csr_at addr ≡ Some c → IfSome result (λ word. kept (row_of c).rule word word ≡ word) }
     {
         let csr = Csr::at(addr)?;
         Some(self.word(csr, mip))
@@ -171,26 +174,31 @@ impl Csrs {
         }
     }
 
-    /// Writes a CSR. False exactly where the CSR is unknown or read-only; nothing changes then.
-    #[tactic(auto, using(crate::proofs::Laws::write_refused, crate::proofs::Laws::writable_by_bits))]
+    /// Writes a CSR. False exactly where the CSR is unknown or bits 11 and 10 of its number are 1: it is read-only then. Nothing
+    /// changes in either case.
+    #[tactic(auto, using(crate::proofs::Laws::write_refused, crate::proofs::Laws::refused_by))]
     pub fn write(&mut self, addr: u16, value: u32) -> bool
         ensures state { self.new ≡ written self.old addr value }
         ensures done { result ≡ writable addr }
         ensures kept { (mip : ℕ) → read_at self.new addr mip ≡ option_map (λ c. kept (row_of c).rule (word_of self.old mip c) value) (csr_at addr) }
         ensures others { (other mip : ℕ) → addr ≢ other → read_at self.new other mip ≡ read_at self.old other mip }
         ensures refused { result ≡ false → self.new ≡ self.old }
-        ensures read_only { IsSome (csr_at addr) → result ≡ not (addr / 2 ^ 10 % 4 == 3) }
+        ensures cause { (result ≡ false) ↔ ((csr_at addr ≡ None) ⊎ (addr / 2 ^ 10 % 4 ≡ 3)) }
     {
         self.put_at(addr, value)
     }
 
-    /// Sets the CSRs of a trap and gives its target.
-    #[tactic(auto, unfolding(crate::specs::Traps::trapped, crate::specs::Traps::target))]
+    /// Enters a trap: mepc becomes `pc`, mcause `cause` and mtval `value`, MPIE takes what MIE was, and MIE becomes 0. Gives the
+    /// address of the handler: mtvec's base, its bits 1 and 0 cleared; for an interrupt, a cause from 2^31 upwards, it is
+    /// base + 4 * cause modulo 2^32 where bit 0 of mtvec is 1.
+    #[tactic(auto, using(crate::proofs::Fixed::even_fixed), unfolding(crate::specs::Traps::trapped, crate::specs::Traps::target))]
     pub fn trap(&mut self, pc: u32, cause: u32, value: u32) -> u32
         requires { pc % 2 ≡ 0 }
         ensures state { self.new ≡ trapped self.old pc cause value }
         ensures goes { result ≡ target self.old.mtvec cause }
         ensures even { result % 2 ≡ 0 }
+        ensures set { (mip : ℕ) → (read_at self.new 0x341 mip ≡ Some pc) × (read_at self.new 0x342 mip ≡ Some cause) × (read_at self.new 0x343 mip ≡ Some value) }
+        ensures others { (other mip : ℕ) → other ≢ 0x300 → other ≢ 0x341 → other ≢ 0x342 → other ≢ 0x343 → read_at self.new other mip ≡ read_at self.old other mip }
     {
         self.mepc = pc;
         self.mcause = cause;
@@ -204,12 +212,13 @@ impl Csrs {
         }
     }
 
-    /// Returns from a trap: gives mepc.
-    #[tactic(auto, unfolding(crate::specs::Traps::returned))]
+    /// Returns from a trap: MIE takes what MPIE was, and MPIE becomes 1. Gives mepc, the address to go on from.
+    #[tactic(auto, using(crate::proofs::Fixed::fixed_even), unfolding(crate::specs::Traps::returned))]
     pub fn mret(&mut self) -> u32
         ensures state { self.new ≡ returned self.old }
         ensures goes { result ≡ self.old.mepc }
         ensures even { result % 2 ≡ 0 }
+        ensures others { (other mip : ℕ) → other ≢ 0x300 → read_at self.new other mip ≡ read_at self.old other mip }
     {
         self.mstatus = status_word(has_bit(self.mstatus, 7), true);
         self.mepc
@@ -235,14 +244,16 @@ impl Csrs {
 
     /// Adds one to mcycle, modulo 2^64.
     pub fn tick(&mut self)
-        ensures { self.new ≡ after_tick self.old }
+        ensures state { self.new ≡ after_tick self.old }
+        ensures others { (other mip : ℕ) → other ≢ 0xb00 → other ≢ 0xb80 → read_at self.new other mip ≡ read_at self.old other mip }
     {
         self.mcycle = self.mcycle.wrapping_add(1);
     }
 
     /// Adds one to minstret, modulo 2^64.
     pub fn retire(&mut self)
-        ensures { self.new ≡ after_retire self.old }
+        ensures state { self.new ≡ after_retire self.old }
+        ensures others { (other mip : ℕ) → other ≢ 0xb02 → other ≢ 0xb82 → read_at self.new other mip ≡ read_at self.old other mip }
     {
         self.minstret = self.minstret.wrapping_add(1);
     }

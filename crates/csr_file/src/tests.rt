@@ -79,6 +79,14 @@ fn interrupts_in_their_order(rt: HostRuntime) {
         assert_eq!(rt; csrs.pending(mip), cause, "at {mip}");
     }
     assert_eq!(rt; csrs.wakes(0x0000_f777), false);
+    for number in 16..32 {
+        let cause = 0x8000_0000 + number;
+        assert_eq!(rt;
+            csrs.pending(0xffff_ffff << number),
+            Some(cause),
+            "from {number} upwards"
+        );
+    }
 }
 
 #[test]

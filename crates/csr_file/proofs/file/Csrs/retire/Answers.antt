@@ -1,0 +1,5 @@
+use Rattle.csr_file.proofs.Laws.{retire_others}
+use Rattle.csr_file.proofs.file.Csrs.retire.Goals as goal
+
+pub returns-clause-others : goal.returns-clause-others
+returns-clause-others c other mip low_apart high_apart = rw (← c.self.view_is) (retire_others _ other mip low_apart high_apart)
