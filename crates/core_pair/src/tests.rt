@@ -59,6 +59,8 @@ fn causes_and_values(rt: HostRuntime) -> Result<(), Fail> {
         (0x0000_4002, 2, 0x4002),
         (0xffff_ffff, 2, 0xffff_ffff),
         (0xf120_9073, 2, 0xf120_9073),
+        // csrrs x1, marchid, x1
+        (0xf120_a0f3, 2, 0xf120_a0f3),
         (0x7c00_9073, 2, 0x7c00_9073),
         (0x0010_2083, 4, 1),
         (0x0010_20a3, 6, 1),
@@ -75,6 +77,23 @@ fn causes_and_values(rt: HostRuntime) -> Result<(), Fail> {
         assert_eq!(rt; core.csr(0x341, 0), Some(8), "address of {word}");
         assert_eq!(rt; core.view().retired, 0);
     }
+    Ok(())
+}
+
+#[test]
+fn narrow_store_is_refused(rt: HostRuntime) -> Result<(), Fail> {
+    // sb x1, 3(x0)
+    let memory = program(rt, 8, &[0x0010_01a3])?;
+    let mut core = Core::new(0);
+    core.start(8, 0);
+    core.issue(0, 0, &memory);
+    assert_eq!(rt; core.view().pc, 8);
+    assert_eq!(rt; core.want().is_some(), true);
+    core.granted(Err(BusFault::Narrow));
+    assert_eq!(rt; core.csr(0x342, 0), Some(7));
+    assert_eq!(rt; core.csr(0x343, 0), Some(3));
+    assert_eq!(rt; core.csr(0x341, 0), Some(8));
+    assert_eq!(rt; core.view().retired, 0);
     Ok(())
 }
 
@@ -113,6 +132,8 @@ fn registers_after_one_instruction(rt: HostRuntime) -> Result<(), Fail> {
         (0x0000_00ef, 0, 0xc),
         (0x0010_00e7, 0, 0xc),
         (0xf120_20f3, 0, 0x13),
+        // csrrc x1, marchid, x0
+        (0xf120_30f3, 0, 0x13),
         (0xb000_20f3, 0, 1),
         (0xb020_20f3, 0, 0),
         (0x3000_60f3, 0, 0x1800),
@@ -124,7 +145,9 @@ fn registers_after_one_instruction(rt: HostRuntime) -> Result<(), Fail> {
         let mut core = Core::new(0);
         core.start(8, 0);
         core.issue(0, 0, &memory);
-        core.granted(Ok(loaded));
+        if core.want().is_some() {
+            core.granted(Ok(loaded));
+        }
         assert_eq!(rt; core.view().regs[1], value, "x1 after {word}");
     }
     Ok(())
