@@ -1,2 +1,3 @@
 pub mod Issues
 pub mod Jumps
+pub mod Waits

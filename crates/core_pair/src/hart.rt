@@ -510,12 +510,14 @@ impl Core {
     /// The core's turn in the cycle `now`, where `mip` is what the interrupt lines give. None exactly where no instruction was
     /// fetched whole and issued; an illegal word counts as issued. A parked core, and one in whose place the monitor stands,
     /// doesn't change.
-    #[tactic(auto, using(crate::proofs::Issues::recorded), unfolding(crate::specs::Turn::turned))]
+    #[tactic(auto, using(crate::proofs::Issues::recorded, crate::proofs::Waits::waiting), unfolding(crate::specs::Turn::turned))]
     pub fn issue(&mut self, now: Cycle, mip: u32, memory: &Memory) -> Option<IssueRecord>
         ensures after { self.new ≡ (turned self.old now mip memory.now).after }
         ensures issued { result ≡ (turned self.old now mip memory.now).issued }
         ensures recorded { IfSome result (λ r. (r.cycle ≡ now) × (r.hart ≡ self.old.hart) × (r.pc ≡ self.old.pc)) }
         ensures out { (self.old.phase ≡ Phase.Parked) ⊎ (self.old.phase ≡ Phase.Monitor) → (self.new ≡ self.old) × (result ≡ None) }
+        // until the grant of its access pc is the instruction's own, no register changes, and it isn't counted
+        ensures waits { IfSome (wanted_in self.new.phase) (λ request. (self.new.pc ≡ self.old.pc) × (self.new.regs ≡ self.old.regs) × (self.new.csrs.minstret ≡ self.old.csrs.minstret)) }
     {
         self.turn(now, mip, memory)
     }

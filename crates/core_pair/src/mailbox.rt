@@ -1,5 +1,5 @@
 //! The mailbox that starts core 1.
-ghost use Rattle.std.specs.Prelude.{◌≡◌, IsTrue};
+ghost use Rattle.std.specs.Prelude.{◌≡◌, ◌≢◌, ℕ, IsTrue};
 ghost use Rattle.core_pair.specs.Clint.{is_among};
 ghost use Rattle.core_pair.specs.Mailbox.{mailbox_offsets, mailbox_stored, mailbox_word, reset_mailbox};
 
@@ -36,10 +36,12 @@ impl Mailbox {
         if offset == 0 { self.pc } else { self.sp }
     }
 
-    /// Keeps a word at an offset, in bytes.
+    /// Keeps a word at an offset, in bytes. The other word stays.
     pub fn store(&mut self, offset: u32, word: u32)
         requires { IsTrue (is_among mailbox_offsets offset) }
-        ensures { self.new ≡ mailbox_stored self.old offset word }
+        ensures state { self.new ≡ mailbox_stored self.old offset word }
+        ensures own { mailbox_word self.new offset ≡ word }
+        ensures others { (other : ℕ) → IsTrue (is_among mailbox_offsets other) → offset ≢ other → mailbox_word self.new other ≡ mailbox_word self.old other }
     {
         if offset == 0 {
             self.pc = word;
