@@ -1,4 +1,5 @@
 pub mod Compared
 pub mod Pins
 pub mod Script
+pub mod Start
 pub mod Wave

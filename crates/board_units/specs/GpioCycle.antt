@@ -2,7 +2,6 @@
 use Rattle.std.specs.Prelude.{◌==◌, ℕ, ◌^◌, nat_le, List, [], ◌∷◌, Option, None, Some, if◌then◌else◌, bit_and, bit_or}
 use Rattle.std.specs.Int.{w32, bit_not}
 use Rattle.chip_base.specs.Given.{Given}
-use Rattle.chip_base.specs.declared.event.Event.{Event}
 use Rattle.chip_base.specs.declared.message.Down.{Down}
 use Rattle.chip_base.specs.declared.message.Down.TheVariants.{Reset, Set}
 use Rattle.chip_base.specs.declared.message.Up.{Up}

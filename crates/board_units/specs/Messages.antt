@@ -1,5 +1,5 @@
 -- What the units say in a cycle.
-use Rattle.std.specs.Prelude.{◌==◌, ℕ, true, false, Option, None, Some, if◌then◌else◌}
+use Rattle.std.specs.Prelude.{◌==◌, ℕ, Option, None, Some, if◌then◌else◌}
 use Rattle.chip_base.specs.declared.event.Event.{Event}
 use Rattle.chip_base.specs.declared.event.EventKind.TheVariants.{Out}
 use Rattle.chip_base.specs.declared.message.Up.{Up}

@@ -1,10 +1,8 @@
 -- One cycle of the pulse-width modulation unit.
 use Rattle.std.specs.Prelude.{◌==◌, ℕ, ◌+◌, ◌%◌, ◌^◌, Bool, ◌&&◌, nat_lt, nat_le, get_or, set, Option, None, Some, if◌then◌else◌}
 use Rattle.chip_base.specs.Given.{Given}
-use Rattle.chip_base.specs.declared.event.Event.{Event}
 use Rattle.chip_base.specs.declared.message.Down.{Down}
 use Rattle.chip_base.specs.declared.message.Down.TheVariants.{Reset, Set}
-use Rattle.chip_base.specs.declared.message.Up.{Up}
 use Rattle.chip_base.specs.Messages.{done_up}
 use Rattle.chip_base.specs.Prescalers.{prescaler_of}
 use Rattle.board_units.specs.Messages.{change_event}

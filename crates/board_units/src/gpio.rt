@@ -94,8 +94,9 @@ impl Gpio {
         self.inputs = inputs;
     }
 
-    /// One cycle: the script's pin changes of this cycle first, then the message that arrives in it, if there is one. Gives what
-    /// leaves the unit: the inputs, where they changed or a Reset was done, and the event of a change of the outputs.
+    /// One cycle: the script's pin changes up to this cycle that haven't come yet first, then the message that arrives in it, if
+    /// there is one. Where the unit is given each cycle in turn, as in a chip, these are the pin changes of this cycle alone.
+    /// Gives what leaves the unit: the inputs, where they changed or a Reset was done, and the event of a change of the outputs.
     #[tactic(auto, unfolding(crate::specs::GpioCycle::gpio_cycle))]
     pub fn cycle(&mut self, now: Cycle, down: Option<Down>) -> UnitOut
         ensures unit { self.new ≡ (gpio_cycle self.old now down).unit }

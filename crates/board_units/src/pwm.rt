@@ -36,7 +36,7 @@ impl Model for Pwm {
 impl Pwm {
     ghost use Rattle.board_units.specs.PwmState.{reset_state};
     ghost use Rattle.board_units.specs.PwmCycle.{configured, with_duty, set_in, is_high, mask_of, counted, shown, reset, pwm_cycle};
-    ghost use Rattle.board_units.specs.PwmWave.{MakesWave};
+    ghost use Rattle.board_units.specs.PwmWave.{MakesWave, RestsDisabled, StartsAtOnce};
     ghost use Rattle.board_units.specs.Laws.{AnswersResets, TellsChange};
 
     /// The unit at power-on: disabled, with the prescaler 2 and duties of 0.
@@ -57,6 +57,7 @@ impl Pwm {
     pub fn period(&self) -> u32
         ensures length { result ≡ 256 * self.now.prescaler }
         ensures wave { MakesWave self.now result }
+        ensures start { StartsAtOnce self.now }
     {
         256 * self.prescaler
     }
@@ -156,6 +157,7 @@ impl Pwm {
         ensures event { result.event ≡ (pwm_cycle self.old now down).event }
         ensures answers { AnswersResets down result.up }
         ensures tells { TellsChange now 5 self.old.mask self.new.mask result.event }
+        ensures rests { RestsDisabled self.new }
     {
         match down {
             Some(Down::Reset) => self.reset(now),

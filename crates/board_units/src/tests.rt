@@ -108,3 +108,30 @@ fn duties(rt: HostRuntime) {
     // the duties are gone
     assert_eq!(rt; pwm.cycle(601, set(0, 1)), QUIET);
 }
+
+/// By the prescaler 4, a unit that is enabled in cycle 3 has its step k in the four cycles from 3 + 4 * k on. Channel 0 has the
+/// duty 0, channel 1 the duty 1 and channel 2 the duty 255.
+#[test]
+fn duties_by_another_prescaler(rt: HostRuntime) {
+    let mut pwm = Pwm::new();
+    for now in 0..2_100 {
+        let down = match now {
+            0 => set(4, 0),
+            1 => set(8, 1),
+            2 => set(12, 255),
+            3 => set(0, 9),
+            _ => None,
+        };
+        let event = match now {
+            3 | 1_027 | 2_051 => out(now, 5, 6),
+            7 | 1_031 | 2_055 => out(now, 5, 4),
+            1_023 | 2_047 => out(now, 5, 0),
+            _ => None,
+        };
+        assert_eq!(rt;
+            pwm.cycle(now, down),
+            UnitOut { up: None, event },
+            "in {now}"
+        );
+    }
+}
