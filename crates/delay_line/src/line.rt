@@ -1,7 +1,8 @@
 //! A link in one direction.
-ghost use Rattle.std.specs.Prelude.{◌≡◌, ◌+◌, ◌<◌, ◌≤◌, ◌^◌, IfOk, OnOk, Option};
+ghost use Rattle.std.specs.Prelude.{◌≡◌, ◌+◌, ◌<◌, ◌≤◌, ◌^◌, IfOk, OnOk, Option, length};
 ghost use Rattle.std.specs.VecDeque.{deque_capacity};
 ghost use Rattle.soc_words.specs.Line.{first_of, moved};
+ghost use Rattle.delay_line.specs.Arrival.{ArrivesOnTime};
 ghost use Rattle.delay_line.specs.Queue.{Flow, arriving_of, empty_line, flowed, left_after};
 
 use chip_base::{Cycle, NoMemory};
@@ -72,7 +73,8 @@ impl<M: Copy> DelayLine<M> {
     #[tactic(auto, using(crate::proofs::Places::places_of_nothing))]
     pub fn new(alloc: Global, delay: u32) -> Result<DelayLine<M>, NoMemory>
         requires { (1 ≤ delay) × (delay ≤ 4096) }
-        ensures { IfOk result (λ l. l ≡ record { cycle = 0; places = empty_line delay }) }
+        ensures line { IfOk result (λ l. l ≡ record { cycle = 0; places = empty_line delay }) }
+        ensures places { IfOk result (λ l. length l.places ≡ delay) }
     {
         let Ok(queue) = VecDeque::with_capacity(alloc, delay as usize) else {
             return Err(NoMemory);
@@ -92,11 +94,13 @@ impl<M: Copy> DelayLine<M> {
         arriving_in(&self.queue, self.cycle)
     }
 
-    /// Ends the cycle, in which `sent` was sent.
-    #[tactic(auto, using(crate::proofs::Places::stays_some, crate::proofs::Places::stays_none, crate::proofs::Places::moved_some, crate::proofs::Places::moved_none, crate::proofs::Places::room))]
+    /// Ends the cycle, in which `sent` was sent. It arrives as many cycles later as the link has places, which is its delay.
+    #[tactic(auto, using(crate::proofs::Places::stays_some, crate::proofs::Places::stays_none, crate::proofs::Places::moved_some, crate::proofs::Places::moved_none, crate::proofs::Places::room, crate::proofs::Arrival::same_places, crate::proofs::Arrival::arrives_on_time))]
     pub fn step(&mut self, sent: Option<M>)
         requires { self.old.cycle + 4096 < 2 ^ 64 }
-        ensures { self.new ≡ flowed self.old sent }
+        ensures line { self.new ≡ flowed self.old sent }
+        ensures places { length self.new.places ≡ length self.old.places }
+        ensures on_time { ArrivesOnTime self.old sent }
     {
         take_arrived(&mut self.queue, self.cycle);
         let at = self.cycle + u64::from(self.delay);
