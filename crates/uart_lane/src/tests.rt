@@ -216,3 +216,100 @@ fn both_in_one_message(rt: HostRuntime) -> Result<(), Fail> {
     assert_eq!(rt; uart.cycle(60, None).up, Some(wanted));
     Ok(())
 }
+
+/// A text counts from the cycle on in which its step becomes current: A has left in cycle 20, the step that waits for cycle 30
+/// passes after it, and B, which leaves in cycle 40, is no AB.
+#[test]
+fn text_that_begins_too_early(rt: HostRuntime) -> Result<(), Fail> {
+    let alloc = rt.alloc();
+    let steps = vec![in alloc;
+        UartStep::At(30),
+        expects(alloc, b"AB")?,
+        sends(alloc, b"x")?,
+    ]?;
+    let downs = [(0, ENABLE), (1, data(0x41)), (2, data(0x42))];
+    receives(&rt, alloc, steps, &downs, &[])
+}
+
+/// The cycles and values of all events in `cycles` cycles, for a unit without a script that is given these messages.
+fn looks_for_events(
+    rt: &impl Abort,
+    alloc: Global,
+    cycles: Cycle,
+    downs: &[(Cycle, Down)],
+    wanted: &[(Cycle, u32)],
+) -> Result<(), Fail> {
+    let steps = Steps0::from_vec(Vec::new(alloc)).expect(rt, "a valid script");
+    let mut uart = Uart::new(1, steps, bytes(alloc, b"")?);
+    for now in 0..cycles {
+        let mut down = None;
+        for (cycle, message) in downs {
+            if *cycle == now {
+                down = Some(*message);
+            }
+        }
+        let mut out = UnitOut {
+            up: None,
+            event: None,
+        };
+        for (cycle, value) in wanted {
+            if *cycle == now {
+                out = sent(now, *value);
+            }
+        }
+        assert_eq!(rt; uart.cycle(now, down), out, "in {now}");
+    }
+    Ok(())
+}
+
+/// A disabled unit keeps the byte of cycle 1. Its frame of twenty cycles begins in cycle 5, in which the unit is enabled.
+#[test]
+fn byte_before_the_unit_is_enabled(rt: HostRuntime) -> Result<(), Fail> {
+    let downs = [(1, data(0x41)), (5, ENABLE)];
+    looks_for_events(&rt, rt.alloc(), 100, &downs, &[(24, 0x41)])
+}
+
+/// A unit that is disabled in cycle 5, with a control word of longer frames, sends A in the frame of twenty cycles that began in
+/// cycle 1. B waits until the unit is enabled again, with frames of forty cycles.
+#[test]
+fn frame_of_a_disabled_unit(rt: HostRuntime) -> Result<(), Fail> {
+    let downs = [
+        (0, ENABLE),
+        (1, data(0x41)),
+        (2, data(0x42)),
+        (5, Down::Set { reg: 0, word: 8 }),
+        (100, Down::Set { reg: 0, word: 9 }),
+    ];
+    looks_for_events(&rt, rt.alloc(), 200, &downs, &[(20, 0x41), (139, 0x42)])
+}
+
+/// The frame of x began in cycle 0 and takes twenty cycles, also where the unit is disabled in cycle 5 with a control word of
+/// longer frames. That of y begins where the unit is enabled again, with frames of forty cycles.
+#[test]
+fn received_by_a_disabled_unit(rt: HostRuntime) -> Result<(), Fail> {
+    let alloc = rt.alloc();
+    let steps = vec![in alloc; sends(alloc, b"xy")?]?;
+    let downs = [
+        (0, ENABLE),
+        (5, Down::Set { reg: 0, word: 8 }),
+        (100, Down::Set { reg: 0, word: 9 }),
+    ];
+    receives(&rt, alloc, steps, &downs, &[(19, 0x78), (139, 0x79)])
+}
+
+/// Of seventeen bytes that a disabled unit is given, the last is lost: sixteen leave, one every twenty cycles, each with a
+/// credit, and nothing follows.
+#[test]
+fn seventeenth_byte(rt: HostRuntime) -> Result<(), Fail> {
+    let alloc = rt.alloc();
+    let mut downs = Vec::new(alloc);
+    let mut wanted = Vec::new(alloc);
+    for place in 0..17_u32 {
+        downs.push((Cycle::from(place), data(0x41 + place)))?;
+    }
+    downs.push((17, ENABLE))?;
+    for place in 0..16_u32 {
+        wanted.push((36 + 20 * Cycle::from(place), 0x41 + place))?;
+    }
+    looks_for_events(&rt, alloc, 400, downs.as_slice(), wanted.as_slice())
+}
