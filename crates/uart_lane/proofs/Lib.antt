@@ -1,6 +1,9 @@
+pub mod Along
 pub mod Counts
 pub mod Frames
 pub mod Heard
+pub mod Hearing
 pub mod Order
+pub mod Receipt
 pub mod Received
 pub mod Script

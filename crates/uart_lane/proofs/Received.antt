@@ -43,7 +43,7 @@ pub none_first : (n : ℕ) → leb 0 n ≡ true
 none_first n = grind (arith, nat_tests)
 
 -- a step that passes at a look has no byte left
-look_sent : (r : Receiver) (now : ℕ) (step : Option UartStep) → current r ≡ step → passes r now step ≡ true → is_sent r ≡ true
+pub look_sent : (r : Receiver) (now : ℕ) (step : Option UartStep) → current r ≡ step → passes r now step ≡ true → is_sent r ≡ true
 look_sent r now None e h = absurd (false≢true h)
 look_sent r now (Some (At cycle)) e h = rw e (none_first r.taken)
 look_sent r now (Some (Expect text)) e h = rw e (none_first r.taken)
@@ -76,10 +76,10 @@ looked_keeps r now enabled frame true p z f = rw (p, z) (sym (passed_keeps r (lo
 looked_keeps r now true frame false p z f = rw p (framed_keeps r frame _ z f refl)
 looked_keeps r now false frame false p z f = rw p refl
 
-ready_off : (r : Receiver) (now : ℕ) (enabled : Bool) (frame : ℕ) → eqb r.left 0 ≡ false → ready r now enabled frame ≡ r
+pub ready_off : (r : Receiver) (now : ℕ) (enabled : Bool) (frame : ℕ) → eqb r.left 0 ≡ false → ready r now enabled frame ≡ r
 ready_off r now enabled frame z = rw z refl
 
-ready_on : (r : Receiver) (now : ℕ) (enabled : Bool) (frame : ℕ) → eqb r.left 0 ≡ true → ready r now enabled frame ≡ looked r now enabled frame
+pub ready_on : (r : Receiver) (now : ℕ) (enabled : Bool) (frame : ℕ) → eqb r.left 0 ≡ true → ready r now enabled frame ≡ looked r now enabled frame
 ready_on r now enabled frame z = rw z refl
 
 ready_keeps : (r : Receiver) (now : ℕ) (enabled : Bool) (frame : ℕ) (a : Bool) → eqb r.left 0 ≡ a → 0 < frame
@@ -128,7 +128,7 @@ framed_steps r frame None = refl
 framed_steps r frame (Some byte) = refl
 
 -- a frame that doesn't run passes nothing
-run_idle : (r : Receiver) → eqb r.left 0 ≡ true → (run r).receiver.steps ≡ r.steps
+pub run_idle : (r : Receiver) → eqb r.left 0 ≡ true → (run r).receiver.steps ≡ r.steps
 run_idle r z = rw z refl
 
 -- where the look doesn't pass a step, the frame may
@@ -146,7 +146,7 @@ ready_steps : (r : Receiver) (now : ℕ) (enabled : Bool) (frame : ℕ) (a : Boo
 ready_steps r now enabled frame true z = rw z (look_steps r now enabled frame _ refl z)
 ready_steps r now enabled frame false z = rw z (run_steps r _ _ _ refl refl refl)
 
-hears_steps : (r : Receiver) (event : Option Event) → (heard_with r event).steps ≡ r.steps
+pub hears_steps : (r : Receiver) (event : Option Event) → (heard_with r event).steps ≡ r.steps
 hears_steps r None = refl
 hears_steps r (Some e) = refl
 
@@ -159,9 +159,9 @@ receive_steps r now event enabled frame =
 
 -- the transmitter leaves the receiver, and takes no byte up
 
-record LeavesReceiver (s : State) (g : Given State) : Type 0 where
-  receiver : g.unit.receiver ≡ s.receiver
-  up : byte_up g.up ≡ []
+pub record LeavesReceiver (s : State) (g : Given State) : Type 0 where
+  pub receiver : g.unit.receiver ≡ s.receiver
+  pub up : byte_up g.up ≡ []
 
 last_leaves : (s : State) (now : ℕ) (fifo : List ℕ) → LeavesReceiver s (sent_last s now fifo)
 last_leaves s now [] = record { receiver = refl; up = refl }
@@ -176,12 +176,12 @@ begun_receiver : (s : State) (a : Bool) → may_begin s ≡ a → (begun s).rece
 begun_receiver s true h = rw h refl
 begun_receiver s false h = rw h refl
 
-transmitter_leaves : (s : State) (now : ℕ) → LeavesReceiver s (sent (begun s) now)
+pub transmitter_leaves : (s : State) (now : ℕ) → LeavesReceiver s (sent (begun s) now)
 transmitter_leaves s now =
     let leaves : LeavesReceiver (begun s) (sent (begun s) now) = sent_leaves_by (begun s) now _ _ refl refl in
     record { receiver = leaves.receiver ∙ begun_receiver s _ refl; up = leaves.up }
 
-byte_beside : (up : Option Up) (byte : Option ℕ) → byte_up up ≡ [] → byte_up (with_byte up byte) ≡ option_to_list byte
+pub byte_beside : (up : Option Up) (byte : Option ℕ) → byte_up up ≡ [] → byte_up (with_byte up byte) ≡ option_to_list byte
 byte_beside None None h = refl
 byte_beside None (Some b) h = refl
 byte_beside (Some up) None h = h
@@ -191,7 +191,7 @@ appended_receiver : (s : State) (byte : ℕ) (a : Bool) → ltb (length s.fifo) 
 appended_receiver s byte true h = rw h refl
 appended_receiver s byte false h = rw h refl
 
-set_receiver : (s : State) (reg word : ℕ) (a b : Bool) → eqb reg 0 ≡ a → eqb reg 4 ≡ b → (set_in s reg word).receiver ≡ s.receiver
+pub set_receiver : (s : State) (reg word : ℕ) (a b : Bool) → eqb reg 0 ≡ a → eqb reg 4 ≡ b → (set_in s reg word).receiver ≡ s.receiver
 set_receiver s reg word true b p q = rw p refl
 set_receiver s reg word false true p q = rw (p, q) (appended_receiver s _ _ refl)
 set_receiver s reg word false false p q = rw (p, q) refl

@@ -1,6 +1,8 @@
 pub mod Counts
 pub mod Cycle
 pub mod Frames
+pub mod Hearing
+pub mod Receipt
 pub mod Receiver
 pub mod Receiving
 pub mod Script

@@ -1,4 +1,5 @@
-//! The UART unit: a byte goes out bit by bit, at the pace that its control word sets.
+//! The UART unit: it sends the bytes that it is given and receives those of a script, bit by bit, at the pace that its control
+//! word sets. Steps of the script wait for a cycle or for a text that the unit sends.
 #![tactic(auto)]
 
 mod receiver;

@@ -62,6 +62,8 @@ impl Uart {
     ghost use Rattle.uart_lane.specs.Cycle.{configured, appended, set_in, frame_of, begun, ended, sent, received, reset, unit_cycle};
     ghost use Rattle.uart_lane.specs.Counts.{KeepsCount, KeepsOrder};
     ghost use Rattle.uart_lane.specs.Frames.{SendsInTime};
+    ghost use Rattle.uart_lane.specs.Hearing.{HearsAll};
+    ghost use Rattle.uart_lane.specs.Receipt.{ReceivesInTime};
     ghost use Rattle.uart_lane.specs.Script.{HearsEnough, KeepsScript};
 
     /// The unit with this number (1 to 7, as in events) at power-on. It receives what these steps say; an image step sends the
@@ -69,6 +71,7 @@ impl Uart {
     pub fn new(unit: u8, steps: Steps0, image: Bytes) -> Uart
         ensures state { result ≡ power_on unit steps image }
         ensures texts { HearsEnough }
+        ensures hears { HearsAll (power_on unit steps image) }
     {
         Uart {
             number: unit,
@@ -116,10 +119,11 @@ impl Uart {
     }
 
     /// How many cycles a frame takes by the present control word. A byte that an idle unit is given in the cycle `t` has its
-    /// event this many cycles later, less one.
+    /// event this many cycles later, less one. So much later a byte of the script goes up whose frame begins in the cycle `t`.
     pub fn frame(&self) -> u32
         ensures length { result ≡ frame_of self.now }
         ensures in_time { SendsInTime self.now result }
+        ensures receives { ReceivesInTime self.now result }
     {
         10 * self.bit
     }
@@ -193,7 +197,11 @@ impl Uart {
         }
     }
 
-    /// One cycle: takes the message that arrives in it, if there is one, and gives what leaves the unit.
+    /// One cycle: takes the message that arrives in it, if there is one, then sends, then receives. Gives what leaves the unit.
+    ///
+    /// In the last cycle of a frame that is sent, its byte leaves: its credit goes up, and the event `Tx` has the byte as its
+    /// value. In the last cycle of a frame that is received, its byte goes up as a word, in the same message where a credit goes
+    /// up too. In the cycle of a Reset only its answer, done, goes up, and there is no event.
     #[tactic(auto, unfolding(crate::specs::Cycle::unit_cycle))]
     pub fn cycle(&mut self, now: Cycle, down: Option<Down>) -> UnitOut
         ensures unit { self.new ≡ (unit_cycle self.old now down).unit }
