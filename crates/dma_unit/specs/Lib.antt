@@ -1,2 +1,3 @@
 pub mod Copier
 pub mod Copying
+pub mod Registers

@@ -60,6 +60,7 @@ fn next_word(count: u16) -> DmaState
 impl Dma {
     ghost use Rattle.dma_unit.specs.Copier.{reset_copier, control_of, loaded_word, with_control, stored, stored_at_rest, wanted, word_read, word_written, refused_at, granted_with, line_of, is_busy};
     ghost use Rattle.dma_unit.specs.Copying.{MovesByOne, Copies};
+    ghost use Rattle.dma_unit.specs.Registers.{StoresWord};
 
     /// The reset state: no copy, and all registers 0.
     pub fn new() -> Dma
@@ -138,9 +139,11 @@ impl Dma {
 
     /// Stores a word to the register at an offset, as at `load`. It is ignored while a copy is under way, and at FAULT.
     /// A store to CTRL with bit 0 starts a copy.
+    #[tactic(auto, using(crate::proofs::Registers::stores))]
     pub fn store(&mut self, reg: u8, word: u32)
         requires register { (reg ≡ 0) ⊎ (reg ≡ 4) ⊎ (reg ≡ 8) ⊎ (reg ≡ 12) ⊎ (reg ≡ 16) }
         ensures registers { self.new ≡ stored self.old reg word }
+        ensures words { StoresWord self.old reg word self.new }
         ensures copy { Copies self.new }
     {
         if !self.state.is_busy() {
