@@ -1,3 +1,4 @@
+pub mod Control
 pub mod Counts
 pub mod GpioFront
 pub mod GpioRises

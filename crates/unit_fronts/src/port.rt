@@ -20,16 +20,18 @@ pub struct Port {
 impl Model for Port {
     ghost use Rattle.std.specs.Prelude.{◌<◌, ◌≤◌, ◌^◌};
     ghost use Rattle.arrayvec.specs.ArrayVec.{array_vec_len};
+    ghost use Rattle.unit_fronts.specs.Control.{IsWritable};
     ghost use Rattle.unit_fronts.specs.Port.{Port};
 
     ghost Value = { Port };
 
     ghost view = { λ p. record { kept = p.kept; overrun = p.overrun; received = p.received.items; credits = p.credits; owed = p.owed } };
 
-    ghost invariant = { λ p. (p.kept < 2 ^ 23) × (array_vec_len p.received ≤ 16) × (p.credits ≤ 16) };
+    ghost invariant = { λ p. (IsWritable p.kept) × (p.kept < 2 ^ 23) × (array_vec_len p.received ≤ 16) × (p.credits ≤ 16) };
 }
 
 impl Port {
+    ghost use Rattle.unit_fronts.specs.Control.{IsWritable, TellsControl};
     ghost use Rattle.unit_fronts.specs.Port.{reset_owing, is_open_of, has_received, control_of, oldest, taken, with_control, spent, credited, received_by, arrived_open, arrived_closed, arrived, line_of, closed};
 
     /// The state at power-on.
@@ -60,7 +62,8 @@ impl Port {
 
     /// CTRL as a load gives it.
     pub fn control(&self) -> u32
-        ensures { result ≡ control_of self.now }
+        ensures word { result ≡ control_of self.now }
+        ensures bits { TellsControl self.now result }
     {
         self.kept
             + bit_if(16, self.has_received())
@@ -71,7 +74,8 @@ impl Port {
 
     /// Keeps the bits of a store to CTRL, and forgets an overrun.
     pub fn keep(&mut self, kept: u32)
-        requires { kept < 2 ^ 23 }
+        requires writable { IsWritable kept }
+        requires below { kept < 2 ^ 23 }
         ensures { self.new ≡ with_control self.old kept }
     {
         self.kept = kept;

@@ -160,3 +160,22 @@ fn duties_kept(rt: HostRuntime) {
     assert!(rt; front.is_open());
     assert_eq!(rt; front.load(8), 0);
 }
+
+/// The answers that are owed are counted up to 8,192.
+#[test]
+fn closed_more_often_than_counted(rt: HostRuntime) {
+    let done = Up {
+        done: true,
+        ..QUIET
+    };
+    let mut front = UartFront::new();
+    for _ in 0..8_200 {
+        front.close();
+    }
+    for _ in 0..8_191 {
+        front.arrive(done);
+    }
+    assert!(rt; !front.is_open());
+    front.arrive(done);
+    assert!(rt; front.is_open());
+}

@@ -1,5 +1,5 @@
 //! The front of a UART.
-ghost use Rattle.std.specs.Prelude.{◌≡◌, ◌≤◌, ◌⊎◌};
+ghost use Rattle.std.specs.Prelude.{◌≡◌, ◌≤◌, ◌⊎◌, None, true};
 
 use crate::port::Port;
 use chip_base::{Down, Up};
@@ -29,6 +29,7 @@ impl Model for UartFront {
 }
 
 impl UartFront {
+    ghost use Rattle.unit_fronts.specs.Control.{TellsControl};
     ghost use Rattle.unit_fronts.specs.Counts.{SpendsCredits, HearsUnit};
     ghost use Rattle.unit_fronts.specs.Port.{reset_owing, is_open_of, arrived, line_of, closed};
     ghost use Rattle.unit_fronts.specs.UartFront.{load_word, loaded, stored, store_sent};
@@ -45,6 +46,8 @@ impl UartFront {
         requires register { (reg ≡ 0) ⊎ (reg ≡ 4) }
         ensures word { result ≡ load_word self.old reg }
         ensures front { self.new ≡ loaded self.old reg }
+        ensures control { is_open_of self.old ≡ true → reg ≡ 0 → TellsControl self.old result }
+        ensures credits { SpendsCredits self.old None self.new }
     {
         if !self.port.is_open() {
             0
@@ -57,6 +60,7 @@ impl UartFront {
 
     /// Stores a word to the register at an offset and gives the message for the unit. None exactly where the front is closed,
     /// or where a store to DATA finds no credit.
+    #[tactic(auto, using(crate::proofs::Control::writable_part))]
     pub fn store(&mut self, reg: u8, word: u32) -> Option<Down>
         requires register { (reg ≡ 0) ⊎ (reg ≡ 4) }
         ensures message { result ≡ store_sent self.old reg word }
@@ -81,7 +85,9 @@ impl UartFront {
         }
     }
 
-    /// Takes a message from the unit.
+    /// Takes a message from the unit. An open front drops one that says that a Reset was done; of any other it takes the credit,
+    /// unless it has sixteen, and the received byte, which is lost where sixteen wait. A closed front counts the answers to its
+    /// Resets, and takes nothing else.
     pub fn arrive(&mut self, up: Up)
         ensures front { self.new ≡ arrived self.old up }
         ensures credits { HearsUnit self.old up self.new }

@@ -1,0 +1,134 @@
+-- A load of CTRL tells each of its bits, since the kept bits lie apart from the others.
+use Rattle.std.proofs.Common.{◌≡◌, ◌≤◌, ◌<◌, ◌↔◌, ℕ, ◌+◌, ◌*◌, ◌/◌, ◌%◌, ◌^◌, min, Bool, true, false, bit_and, length, cond, refl, sym, ap, ◌∙◌, arith, subst}
+use Rattle.std.specs.Prelude.{◌==◌, nat_lt}
+use Rattle.std.specs.Int.{bit_at}
+use Rattle.std.proofs.lemmas.Bool.{false≢true}
+use Rattle.std.proofs.lemmas.Bool.Decides.{nat_tests}
+use Rattle.std.proofs.lemmas.Nat.Bits.{bit_at_and, same_from_bits}
+use Rattle.chip_base.specs.Bits.{bit_if}
+use Rattle.unit_fronts.specs.Control.{IsWritable, TellsControl, writable}
+use Rattle.unit_fronts.specs.Port.{Port, control_of, has_received}
+
+-- the part that a store keeps has the writable bits alone
+pub writable_part : (word : ℕ) → IsWritable (bit_and word writable)
+writable_part word = same_from_bits (bit_and (bit_and word writable) writable) (bit_and word writable)
+    (λ i. bit_at_and (bit_and word writable) writable i
+    ∙ (ap (λ b. min b (bit_at writable i)) (bit_at_and word writable i) ∙ (twice (bit_at word i) (bit_at writable i) ∙ sym (bit_at_and word writable i))))
+  where
+    twice : (a b : ℕ) → min (min a b) b ≡ min a b
+    twice a b = omega arith
+
+-- a bit that can't be written isn't kept
+not_kept : (kept place : ℕ) → IsWritable kept → bit_at writable place ≡ 0 → bit_at kept place ≡ 0
+not_kept kept place h zero_there =
+    ap (λ w. bit_at w place) (sym h) ∙ (bit_at_and kept writable place ∙ (ap (min (bit_at kept place)) zero_there ∙ none (bit_at kept place)))
+  where
+    none : (a : ℕ) → min a 0 ≡ 0
+    none a = omega arith
+
+-- which of the bits that can't be written a number has: none
+record LiesApart (kept : ℕ) : Type 0 where
+  low : kept / 2 % 4 ≡ 0
+  middle : kept / 65536 % 64 ≡ 0
+  high : kept < 8388608
+
+lies_apart : (kept : ℕ) → IsWritable kept → kept < 2 ^ 23 → LiesApart kept
+lies_apart kept h below =
+    let b1 : kept / 2 % 2 ≡ 0 = not_kept kept 1 h refl in
+    let b2 : kept / 4 % 2 ≡ 0 = not_kept kept 2 h refl in
+    let b16 : kept / 65536 % 2 ≡ 0 = not_kept kept 16 h refl in
+    let b17 : kept / 131072 % 2 ≡ 0 = not_kept kept 17 h refl in
+    let b18 : kept / 262144 % 2 ≡ 0 = not_kept kept 18 h refl in
+    let b19 : kept / 524288 % 2 ≡ 0 = not_kept kept 19 h refl in
+    let b20 : kept / 1048576 % 2 ≡ 0 = not_kept kept 20 h refl in
+    let b21 : kept / 2097152 % 2 ≡ 0 = not_kept kept 21 h refl in
+    record {
+      low = omega (arith, b1, b2);
+      middle = omega (arith, b16, b17, b18, b19, b20, b21);
+      high = below;
+    }
+
+-- a bit of a word that is set where something holds
+abbrev digit : Bool → ℕ
+digit is_set = cond is_set 1 0
+
+digit_below : (b : Bool) → digit b ≤ 1
+digit_below true = omega arith
+digit_below false = omega arith
+
+bit_of : (place : ℕ) (b : Bool) → bit_if place b ≡ 2 ^ place * digit b
+bit_of place true = omega arith
+bit_of place false = omega arith
+
+tells_if : (P : Type 0) (b : Bool) (bit : ℕ) → bit ≡ digit b → (b ≡ true → P) → (P → b ≡ true) → (bit ≡ 1) ↔ P
+tells_if P true bit e f g = (λ x. f refl, λ p. e)
+tells_if P false bit e f g = (λ x. absurd (omega (arith, x, e)), λ p. absurd (false≢true (g p)))
+
+abbrev sum_of : ℕ → ℕ → ℕ → ℕ → ℕ → ℕ
+sum_of kept a b c d = kept + 65536 * a + 2097152 * b + 1073741824 * c + 2147483648 * d
+
+-- the four bits beside the kept ones stand at their places
+record HasBits (kept a b c d word : ℕ) : Type 0 where
+  enable : word / 1 % 2 ≡ kept / 1 % 2
+  prescaler : word / 8 % 8 ≡ kept / 8 % 8
+  baud : word / 64 % 1024 ≡ kept / 64 % 1024
+  interrupts : word / 4194304 % 2 ≡ kept / 4194304 % 2
+  received : word / 65536 % 2 ≡ a
+  full : word / 2097152 % 2 ≡ b
+  overrun : word / 1073741824 % 2 ≡ c
+  busy : word / 2147483648 % 2 ≡ d
+  below_prescaler : word / 2 % 4 ≡ 0
+  below_full : word / 131072 % 16 ≡ 0
+  below_overrun : word / 8388608 % 128 ≡ 0
+
+has_bits : (kept a b c d : ℕ) → LiesApart kept → a ≤ 1 → b ≤ 1 → c ≤ 1 → d ≤ 1 → HasBits kept a b c d (sum_of kept a b c d)
+has_bits kept a b c d k ha hb hc hd =
+    let low : kept / 2 % 4 ≡ 0 = k.low in
+    let middle : kept / 65536 % 64 ≡ 0 = k.middle in
+    let high : kept < 8388608 = k.high in
+    record {
+      enable = omega arith;
+      prescaler = omega arith;
+      baud = omega arith;
+      interrupts = omega (arith, middle, high, ha, hb, hc, hd);
+      received = omega (arith, middle, high, ha, hb, hc, hd);
+      full = omega (arith, middle, high, ha, hb, hc, hd);
+      overrun = omega (arith, high, ha, hb, hc, hd);
+      busy = omega (arith, high, ha, hb, hc, hd);
+      below_prescaler = omega (arith, low);
+      below_full = omega (arith, middle, high, ha, hb, hc, hd);
+      below_overrun = omega (arith, high, ha, hb, hc, hd);
+    }
+
+sum_same : (s : Port) → control_of s ≡ sum_of s.kept (digit (has_received s)) (digit (s.credits == 0)) (digit s.overrun) (digit (nat_lt s.credits 16))
+sum_same s =
+    let a : bit_if 16 (has_received s) ≡ 2 ^ 16 * digit (has_received s) = bit_of 16 (has_received s) in
+    let b : bit_if 21 (s.credits == 0) ≡ 2 ^ 21 * digit (s.credits == 0) = bit_of 21 (s.credits == 0) in
+    let c : bit_if 30 s.overrun ≡ 2 ^ 30 * digit s.overrun = bit_of 30 s.overrun in
+    let d : bit_if 31 (nat_lt s.credits 16) ≡ 2 ^ 31 * digit (nat_lt s.credits 16) = bit_of 31 (nat_lt s.credits 16) in
+    rw (a, b, c, d) refl
+
+abbrev HasBitsOf : Port → ℕ → Type 0
+HasBitsOf s word = HasBits s.kept (digit (has_received s)) (digit (s.credits == 0)) (digit s.overrun) (digit (nat_lt s.credits 16)) word
+
+tells_bits : (s : Port) (word : ℕ) → HasBitsOf s word → TellsControl s word
+tells_bits s word h = record {
+  enable = h.enable;
+  prescaler = h.prescaler;
+  baud = h.baud;
+  interrupts = h.interrupts;
+  received = tells_if (0 < length s.received) (has_received s) _ h.received (λ e. grind (arith, nat_tests)) (λ e. grind (arith, nat_tests));
+  full = tells_if (s.credits ≡ 0) (s.credits == 0) _ h.full (λ e. grind (arith, nat_tests)) (λ e. grind (arith, nat_tests));
+  overrun = tells_if (s.overrun ≡ true) s.overrun _ h.overrun (λ e. e) (λ e. e);
+  busy = tells_if (s.credits < 16) (nat_lt s.credits 16) _ h.busy (λ e. grind (arith, nat_tests)) (λ e. grind (arith, nat_tests));
+  below_prescaler = h.below_prescaler;
+  below_full = h.below_full;
+  below_overrun = h.below_overrun;
+}
+
+-- what a load of CTRL gives tells each bit
+pub tells_control : (s : Port) (word : ℕ) → word ≡ control_of s → IsWritable s.kept → s.kept < 2 ^ 23 → TellsControl s word
+tells_control s word e kept below =
+    tells_bits s word (subst (λ w. HasBitsOf s w) (sym (e ∙ sum_same s))
+    (has_bits s.kept _ _ _ _ (lies_apart s.kept kept below) (digit_below (has_received s)) (digit_below (s.credits == 0)) (digit_below s.overrun)
+    (digit_below (nat_lt s.credits 16))))

@@ -1,0 +1,30 @@
+-- What a load of CTRL tells of a front.
+use Rattle.std.specs.Prelude.{◌≡◌, ◌<◌, ◌↔◌, ℕ, ◌/◌, ◌%◌, ◌^◌, true, bit_and, length}
+use Rattle.std.specs.Int.{bit_at}
+use Rattle.unit_fronts.specs.Port.{Port}
+
+-- the bits of CTRL that a store may write: enable (0), prescaler (3 to 5), baud (6 to 15) and interrupt enable (22)
+abbrev pub writable : ℕ
+writable = 0x0040fff9
+
+-- a word has none but these bits
+abbrev pub IsWritable : ℕ → Type 0
+IsWritable word = bit_and word writable ≡ word
+
+-- the word that a load of CTRL gives, bit by bit
+pub record TellsControl (front : Port) (word : ℕ) : Type 0 where
+  pub enable : bit_at word 0 ≡ bit_at front.kept 0
+  pub prescaler : word / 2 ^ 3 % 2 ^ 3 ≡ front.kept / 2 ^ 3 % 2 ^ 3
+  pub baud : word / 2 ^ 6 % 2 ^ 10 ≡ front.kept / 2 ^ 6 % 2 ^ 10
+  pub interrupts : bit_at word 22 ≡ bit_at front.kept 22
+  -- a received entry waits
+  pub received : (bit_at word 16 ≡ 1) ↔ (0 < length front.received)
+  -- no entry may be sent
+  pub full : (bit_at word 21 ≡ 1) ↔ (front.credits ≡ 0)
+  pub overrun : (bit_at word 30 ≡ 1) ↔ (front.overrun ≡ true)
+  -- an entry that was sent waits in the unit
+  pub busy : (bit_at word 31 ≡ 1) ↔ (front.credits < 16)
+  -- the other bits read zero
+  pub below_prescaler : word / 2 % 2 ^ 2 ≡ 0
+  pub below_full : word / 2 ^ 17 % 2 ^ 4 ≡ 0
+  pub below_overrun : word / 2 ^ 23 % 2 ^ 7 ≡ 0
