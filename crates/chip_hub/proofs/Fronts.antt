@@ -1,6 +1,6 @@
 -- What one cycle of the hub does to the fronts of its units.
 use Rattle.std.proofs.Common.{◌≡◌, ◌≤◌, ◌+◌, ◌-◌, ℕ, Bool, true, false, eqb, List, Option, None, Some, Result, Ok, Err, refl, arith}
-use Rattle.std.specs.Prelude.{get_or, ◌&&◌, not}
+use Rattle.std.specs.Prelude.{◌==◌, get_or, ◌&&◌, not, if◌then◌else◌}
 use Rattle.std.proofs.lemmas.Bool.Decides.{nat_tests}
 use Rattle.chip_base.specs.declared.message.Down.{Down}
 use Rattle.chip_base.specs.declared.message.Up.{Up}
@@ -22,9 +22,10 @@ use Rattle.unit_fronts.specs.GpioFront.{PinRegisters, answered as pins_answered,
 use Rattle.unit_fronts.specs.PwmFront.{DutyRegisters, arrived as duty_arrived, store_sent as duty_sent, stored as duty_stored}
 use Rattle.unit_fronts.specs.UartFront.{loaded, stored, store_sent}
 use Rattle.unit_fronts.proofs.Counts.{loads, spends}
-use Rattle.chip_hub.specs.Access.{accessed, accessed_by, in_clint, in_device, in_dma, in_gpio, in_mailbox, in_memory, in_pwm, in_region, in_sysinfo, in_uart0, in_uart1, memory_stored, silent}
+use Rattle.chip_hub.specs.Access.{accessed, accessed_by, in_clint, in_device, in_dma, in_mailbox, in_memory, in_region, in_sysinfo, memory_stored, silent}
 use Rattle.chip_hub.specs.Cycle.{heard, heard_by_gpio, heard_by_pwm, hub_cycle, served, served0, served1, served2, served_to, timed, turn0, turn1, wants_of}
 use Rattle.chip_hub.specs.State.{Fronts, State}
+use Rattle.chip_hub.specs.Units.{AtFront, at_gpio, at_pwm, at_uart}
 
 -- a relation between the fronts before an access, the fronts after it and the messages that go down holds of every access
 pub record HoldsOfAccesses (Q : Fronts → Fronts → List (Option Down) → Type 0) : Type 0 where
@@ -126,11 +127,7 @@ serves_nothing : (p : Port) → ServesPort p None p
 serves_nothing p = record { credits = record { credits = omega arith; owed = refl }; closed = λ c. refl; no_reset = refl }
 
 uart_load : (p : Port) (reg : ℕ) → ServesPort p None (loaded p reg)
-uart_load p reg = record {
-  credits = record { credits = let same : (loaded p reg).credits ≡ p.credits = (loads p reg).0 in omega (arith, same); owed = (loads p reg).1 };
-  closed = λ c. refl;
-  no_reset = refl;
-}
+uart_load p reg = record { credits = loads p reg; closed = λ c. refl; no_reset = refl }
 
 uart_no_reset : (p : Port) (reg word : ℕ) (open_now control empty : Bool) → is_open_of p ≡ open_now → eqb reg 0 ≡ control → eqb p.credits 0 ≡ empty
     → reset_in (store_sent p reg word) ≡ 0
@@ -146,93 +143,39 @@ uart_store p reg word = record {
   no_reset = uart_no_reset p reg word _ _ _ refl refl refl;
 }
 
--- what an access does to the front of uart0
-abbrev ServesUart0 : Fronts → Fronts → List (Option Down) → Type 0
-ServesUart0 old new downs = ServesPort old.uart0 (get_or downs 0 None) new.uart0
+-- what an access does to the front that it reaches
+uart_access : (p : Port) (r : Request) (reg : ℕ) (store : Option ℕ) → ServesPort p (at_uart p r reg store).down (at_uart p r reg store).front
+uart_access p r reg None = uart_load p reg
+uart_access p r reg (Some value) = uart_store p reg value
 
-uart0_register : (s : State) (r : Request) (reg : ℕ) (store : Option ℕ)
-    → ServesUart0 s.fronts (in_uart0 s r reg store).hub.fronts (in_uart0 s r reg store).downs
-uart0_register s r reg None = uart_load s.fronts.uart0 reg
-uart0_register s r reg (Some value) = uart_store s.fronts.uart0 reg value
-
--- the same of uart1
-abbrev ServesUart1 : Fronts → Fronts → List (Option Down) → Type 0
-ServesUart1 old new downs = ServesPort old.uart1 (get_or downs 1 None) new.uart1
-
-uart1_register : (s : State) (r : Request) (reg : ℕ) (store : Option ℕ)
-    → ServesUart1 s.fronts (in_uart1 s r reg store).hub.fronts (in_uart1 s r reg store).downs
-uart1_register s r reg None = uart_load s.fronts.uart1 reg
-uart1_register s r reg (Some value) = uart_store s.fronts.uart1 reg value
-
--- an access to another unit's registers doesn't reach these fronts
-uart0_past_uart1 : (s : State) (r : Request) (reg : ℕ) (store : Option ℕ) → ServesUart0 s.fronts (in_uart1 s r reg store).hub.fronts (in_uart1 s r reg store).downs
-uart0_past_uart1 s r reg None = serves_nothing s.fronts.uart0
-uart0_past_uart1 s r reg (Some value) = serves_nothing s.fronts.uart0
-
-uart0_past_gpio : (s : State) (r : Request) (reg : ℕ) (store : Option ℕ) → ServesUart0 s.fronts (in_gpio s r reg store).hub.fronts (in_gpio s r reg store).downs
-uart0_past_gpio s r reg None = serves_nothing s.fronts.uart0
-uart0_past_gpio s r reg (Some value) = serves_nothing s.fronts.uart0
-
-uart0_past_pwm : (s : State) (r : Request) (reg : ℕ) (store : Option ℕ) → ServesUart0 s.fronts (in_pwm s r reg store).hub.fronts (in_pwm s r reg store).downs
-uart0_past_pwm s r reg None = serves_nothing s.fronts.uart0
-uart0_past_pwm s r reg (Some value) = serves_nothing s.fronts.uart0
-
-uart0_device : (s : State) (r : Request) (unit reg : ℕ) (is_uart0 is_uart1 is_gpio is_pwm : Bool)
-    → eqb unit 1 ≡ is_uart0 → eqb unit 2 ≡ is_uart1 → eqb unit 4 ≡ is_gpio → eqb unit 5 ≡ is_pwm
-    → ServesUart0 s.fronts (in_device s r unit reg).hub.fronts (in_device s r unit reg).downs
-uart0_device s r unit reg true b c d e f g h = rw e (uart0_register s r reg r.store)
-uart0_device s r unit reg false true c d e f g h = rw (e, f) (uart0_past_uart1 s r reg r.store)
-uart0_device s r unit reg false false true d e f g h = rw (e, f, g) (uart0_past_gpio s r reg r.store)
-uart0_device s r unit reg false false false true e f g h = rw (e, f, g, h) (uart0_past_pwm s r reg r.store)
-uart0_device s r unit reg false false false false e f g h = rw (e, f, g, h) (serves_nothing s.fronts.uart0)
-
-uart1_past_uart0 : (s : State) (r : Request) (reg : ℕ) (store : Option ℕ) → ServesUart1 s.fronts (in_uart0 s r reg store).hub.fronts (in_uart0 s r reg store).downs
-uart1_past_uart0 s r reg None = serves_nothing s.fronts.uart1
-uart1_past_uart0 s r reg (Some value) = serves_nothing s.fronts.uart1
-
-uart1_past_gpio : (s : State) (r : Request) (reg : ℕ) (store : Option ℕ) → ServesUart1 s.fronts (in_gpio s r reg store).hub.fronts (in_gpio s r reg store).downs
-uart1_past_gpio s r reg None = serves_nothing s.fronts.uart1
-uart1_past_gpio s r reg (Some value) = serves_nothing s.fronts.uart1
-
-uart1_past_pwm : (s : State) (r : Request) (reg : ℕ) (store : Option ℕ) → ServesUart1 s.fronts (in_pwm s r reg store).hub.fronts (in_pwm s r reg store).downs
-uart1_past_pwm s r reg None = serves_nothing s.fronts.uart1
-uart1_past_pwm s r reg (Some value) = serves_nothing s.fronts.uart1
-
-uart1_device : (s : State) (r : Request) (unit reg : ℕ) (is_uart0 is_uart1 is_gpio is_pwm : Bool)
-    → eqb unit 1 ≡ is_uart0 → eqb unit 2 ≡ is_uart1 → eqb unit 4 ≡ is_gpio → eqb unit 5 ≡ is_pwm
-    → ServesUart1 s.fronts (in_device s r unit reg).hub.fronts (in_device s r unit reg).downs
-uart1_device s r unit reg true b c d e f g h = rw e (uart1_past_uart0 s r reg r.store)
-uart1_device s r unit reg false true c d e f g h = rw (e, f) (uart1_register s r reg r.store)
-uart1_device s r unit reg false false true d e f g h = rw (e, f, g) (uart1_past_gpio s r reg r.store)
-uart1_device s r unit reg false false false true e f g h = rw (e, f, g, h) (uart1_past_pwm s r reg r.store)
-uart1_device s r unit reg false false false false e f g h = rw (e, f, g, h) (serves_nothing s.fronts.uart1)
+-- what holds of a front at an access to its own registers, and of one that nothing reaches, holds of it at an access to any unit's
+by_unit : {F : Type 0} (Serves : F → Option Down → F → Type 0) (old : F) (at : AtFront F) → Serves old None old → Serves old at.down at.front
+    → (reached : Bool) → Serves old (if reached then at.down else None) (if reached then at.front else old)
+by_unit Serves old at nothing served true = served
+by_unit Serves old at nothing served false = nothing
 
 -- what a cycle does to the front of uart0, after the arrivals
 pub serves_uart0 : (s : State) (now : ℕ) (ups : List (Option Up))
     → ServesPort (heard s ups).fronts.uart0 (get_or (hub_cycle s now ups).downs 0 None) (hub_cycle s now ups).hub.fronts.uart0
-serves_uart0 = cycle_fronts ServesUart0 (record {
+serves_uart0 = cycle_fronts (λ old new downs. ServesPort old.uart0 (get_or downs 0 None) new.uart0) (record {
   quiet = λ f. serves_nothing f.uart0;
-  device = λ s r unit reg. uart0_device s r unit reg _ _ _ _ refl refl refl refl;
+  device = λ s r unit reg.
+      by_unit ServesPort s.fronts.uart0 (at_uart s.fronts.uart0 r reg r.store) (serves_nothing _) (uart_access _ r reg r.store) (unit == 1);
 })
 
 -- what a cycle does to the front of uart1, after the arrivals
 pub serves_uart1 : (s : State) (now : ℕ) (ups : List (Option Up))
     → ServesPort (heard s ups).fronts.uart1 (get_or (hub_cycle s now ups).downs 1 None) (hub_cycle s now ups).hub.fronts.uart1
-serves_uart1 = cycle_fronts ServesUart1 (record {
+serves_uart1 = cycle_fronts (λ old new downs. ServesPort old.uart1 (get_or downs 1 None) new.uart1) (record {
   quiet = λ f. serves_nothing f.uart1;
-  device = λ s r unit reg. uart1_device s r unit reg _ _ _ _ refl refl refl refl;
+  device = λ s r unit reg.
+      by_unit ServesPort s.fronts.uart1 (at_uart s.fronts.uart1 r reg r.store) (serves_nothing _) (uart_access _ r reg r.store) (unit == 2);
 })
 
 -- what an access does to the answers that a front without entries waits for: nothing, and it sends no Reset
 pub record ServesAnswers (old : ℕ) (down : Option Down) (new : ℕ) : Type 0 where
   pub owed : new ≡ old
   pub no_reset : reset_in down ≡ 0
-
-abbrev ServesGpio : Fronts → Fronts → List (Option Down) → Type 0
-ServesGpio old new downs = ServesAnswers old.gpio.owed (get_or downs 3 None) new.gpio.owed
-
-abbrev ServesPwm : Fronts → Fronts → List (Option Down) → Type 0
-ServesPwm old new downs = ServesAnswers old.pwm.owed (get_or downs 4 None) new.pwm.owed
 
 no_answers : (owed : ℕ) → ServesAnswers owed None owed
 no_answers owed = record { owed = refl; no_reset = refl }
@@ -255,69 +198,33 @@ pwm_store p reg word false b e f = rw e record { owed = refl; no_reset = refl }
 pwm_store p reg word true true e f = record { owed = rw (e, f) refl; no_reset = rw e refl }
 pwm_store p reg word true false e f = record { owed = rw (e, f) refl; no_reset = rw e refl }
 
-gpio_register : (s : State) (r : Request) (reg : ℕ) (store : Option ℕ) → ServesGpio s.fronts (in_gpio s r reg store).hub.fronts (in_gpio s r reg store).downs
-gpio_register s r reg None = no_answers s.fronts.gpio.owed
-gpio_register s r reg (Some value) = gpio_store s.fronts.gpio reg value _ _ refl refl
+gpio_access : (p : PinRegisters) (r : Request) (reg : ℕ) (store : Option ℕ)
+    → ServesAnswers p.owed (at_gpio p r reg store).down (at_gpio p r reg store).front.owed
+gpio_access p r reg None = no_answers p.owed
+gpio_access p r reg (Some value) = gpio_store p reg value _ _ refl refl
 
-pwm_register : (s : State) (r : Request) (reg : ℕ) (store : Option ℕ) → ServesPwm s.fronts (in_pwm s r reg store).hub.fronts (in_pwm s r reg store).downs
-pwm_register s r reg None = no_answers s.fronts.pwm.owed
-pwm_register s r reg (Some value) = pwm_store s.fronts.pwm reg value _ _ refl refl
-
-gpio_past_uart0 : (s : State) (r : Request) (reg : ℕ) (store : Option ℕ) → ServesGpio s.fronts (in_uart0 s r reg store).hub.fronts (in_uart0 s r reg store).downs
-gpio_past_uart0 s r reg None = no_answers s.fronts.gpio.owed
-gpio_past_uart0 s r reg (Some value) = no_answers s.fronts.gpio.owed
-
-gpio_past_uart1 : (s : State) (r : Request) (reg : ℕ) (store : Option ℕ) → ServesGpio s.fronts (in_uart1 s r reg store).hub.fronts (in_uart1 s r reg store).downs
-gpio_past_uart1 s r reg None = no_answers s.fronts.gpio.owed
-gpio_past_uart1 s r reg (Some value) = no_answers s.fronts.gpio.owed
-
-gpio_past_pwm : (s : State) (r : Request) (reg : ℕ) (store : Option ℕ) → ServesGpio s.fronts (in_pwm s r reg store).hub.fronts (in_pwm s r reg store).downs
-gpio_past_pwm s r reg None = no_answers s.fronts.gpio.owed
-gpio_past_pwm s r reg (Some value) = no_answers s.fronts.gpio.owed
-
-gpio_device : (s : State) (r : Request) (unit reg : ℕ) (is_uart0 is_uart1 is_gpio is_pwm : Bool)
-    → eqb unit 1 ≡ is_uart0 → eqb unit 2 ≡ is_uart1 → eqb unit 4 ≡ is_gpio → eqb unit 5 ≡ is_pwm
-    → ServesGpio s.fronts (in_device s r unit reg).hub.fronts (in_device s r unit reg).downs
-gpio_device s r unit reg true b c d e f g h = rw e (gpio_past_uart0 s r reg r.store)
-gpio_device s r unit reg false true c d e f g h = rw (e, f) (gpio_past_uart1 s r reg r.store)
-gpio_device s r unit reg false false true d e f g h = rw (e, f, g) (gpio_register s r reg r.store)
-gpio_device s r unit reg false false false true e f g h = rw (e, f, g, h) (gpio_past_pwm s r reg r.store)
-gpio_device s r unit reg false false false false e f g h = rw (e, f, g, h) (no_answers s.fronts.gpio.owed)
-
-pwm_past_uart0 : (s : State) (r : Request) (reg : ℕ) (store : Option ℕ) → ServesPwm s.fronts (in_uart0 s r reg store).hub.fronts (in_uart0 s r reg store).downs
-pwm_past_uart0 s r reg None = no_answers s.fronts.pwm.owed
-pwm_past_uart0 s r reg (Some value) = no_answers s.fronts.pwm.owed
-
-pwm_past_uart1 : (s : State) (r : Request) (reg : ℕ) (store : Option ℕ) → ServesPwm s.fronts (in_uart1 s r reg store).hub.fronts (in_uart1 s r reg store).downs
-pwm_past_uart1 s r reg None = no_answers s.fronts.pwm.owed
-pwm_past_uart1 s r reg (Some value) = no_answers s.fronts.pwm.owed
-
-pwm_past_gpio : (s : State) (r : Request) (reg : ℕ) (store : Option ℕ) → ServesPwm s.fronts (in_gpio s r reg store).hub.fronts (in_gpio s r reg store).downs
-pwm_past_gpio s r reg None = no_answers s.fronts.pwm.owed
-pwm_past_gpio s r reg (Some value) = no_answers s.fronts.pwm.owed
-
-pwm_device : (s : State) (r : Request) (unit reg : ℕ) (is_uart0 is_uart1 is_gpio is_pwm : Bool)
-    → eqb unit 1 ≡ is_uart0 → eqb unit 2 ≡ is_uart1 → eqb unit 4 ≡ is_gpio → eqb unit 5 ≡ is_pwm
-    → ServesPwm s.fronts (in_device s r unit reg).hub.fronts (in_device s r unit reg).downs
-pwm_device s r unit reg true b c d e f g h = rw e (pwm_past_uart0 s r reg r.store)
-pwm_device s r unit reg false true c d e f g h = rw (e, f) (pwm_past_uart1 s r reg r.store)
-pwm_device s r unit reg false false true d e f g h = rw (e, f, g) (pwm_past_gpio s r reg r.store)
-pwm_device s r unit reg false false false true e f g h = rw (e, f, g, h) (pwm_register s r reg r.store)
-pwm_device s r unit reg false false false false e f g h = rw (e, f, g, h) (no_answers s.fronts.pwm.owed)
+pwm_access : (p : DutyRegisters) (r : Request) (reg : ℕ) (store : Option ℕ)
+    → ServesAnswers p.owed (at_pwm p r reg store).down (at_pwm p r reg store).front.owed
+pwm_access p r reg None = no_answers p.owed
+pwm_access p r reg (Some value) = pwm_store p reg value _ _ refl refl
 
 -- what a cycle does to the fronts of gpio and pwm, after the arrivals
 pub serves_gpio : (s : State) (now : ℕ) (ups : List (Option Up))
     → ServesAnswers (heard s ups).fronts.gpio.owed (get_or (hub_cycle s now ups).downs 3 None) (hub_cycle s now ups).hub.fronts.gpio.owed
-serves_gpio = cycle_fronts ServesGpio (record {
+serves_gpio = cycle_fronts (λ old new downs. ServesAnswers old.gpio.owed (get_or downs 3 None) new.gpio.owed) (record {
   quiet = λ f. no_answers f.gpio.owed;
-  device = λ s r unit reg. gpio_device s r unit reg _ _ _ _ refl refl refl refl;
+  device = λ s r unit reg.
+      by_unit (λ old down new. ServesAnswers old.owed down new.owed) s.fronts.gpio (at_gpio s.fronts.gpio r reg r.store) (no_answers _)
+      (gpio_access _ r reg r.store) (unit == 4);
 })
 
 pub serves_pwm : (s : State) (now : ℕ) (ups : List (Option Up))
     → ServesAnswers (heard s ups).fronts.pwm.owed (get_or (hub_cycle s now ups).downs 4 None) (hub_cycle s now ups).hub.fronts.pwm.owed
-serves_pwm = cycle_fronts ServesPwm (record {
+serves_pwm = cycle_fronts (λ old new downs. ServesAnswers old.pwm.owed (get_or downs 4 None) new.pwm.owed) (record {
   quiet = λ f. no_answers f.pwm.owed;
-  device = λ s r unit reg. pwm_device s r unit reg _ _ _ _ refl refl refl refl;
+  device = λ s r unit reg.
+      by_unit (λ old down new. ServesAnswers old.owed down new.owed) s.fronts.pwm (at_pwm s.fronts.pwm r reg r.store) (no_answers _)
+      (pwm_access _ r reg r.store) (unit == 5);
 })
 
 -- what an arrival does to the answers that a front waits for

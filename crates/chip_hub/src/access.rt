@@ -1,32 +1,34 @@
 //! Accesses that were granted.
-ghost use Rattle.std.specs.Prelude.{◌≡◌, ◌⊎◌, ◌*◌, ◌/◌, ℕ, Ok, Err, IsTrue, length, true};
+ghost use Rattle.std.specs.Prelude.{◌≡◌, ◌≤◌, ◌*◌, ◌/◌, ◌-◌, ℕ, Ok, Err, IsTrue, length, set, true};
 ghost use Rattle.core_pair.specs.Clint.{clint_offsets, is_among};
 ghost use Rattle.core_pair.specs.Mailbox.{mailbox_offsets};
 ghost use Rattle.dma_unit.specs.Copier.{is_busy};
 ghost use Rattle.soc_bus.specs.Map.{admitted};
 ghost use Rattle.chip_hub.specs.Offsets.{dma_fits, fits_at, unit_fits};
-ghost use Rattle.chip_hub.specs.Access.{offset_in, open_word, silent};
-ghost use Rattle.chip_hub.specs.Access.{accessed, in_clint, in_device, in_dma, in_gpio, in_mailbox, in_memory, in_pwm, in_region, in_sysinfo, in_uart0, in_uart1, sysinfo_word};
+ghost use Rattle.chip_hub.specs.Access.{accessed, in_clint, in_device, in_dma, in_mailbox, in_memory, in_region, in_sysinfo, open_word, silent, sysinfo_word};
+ghost use Rattle.chip_hub.specs.Parts.{offset_in};
 
 use crate::hub::Hub;
 use crate::parts::{offset_in, part_of_word};
-use chip_base::bits::bit_if;
+use crate::units::{AtFront, access_gpio, access_pwm, access_uart};
 use chip_base::Down;
+use chip_base::bits::bit_if;
 use soc_bus::{BusFault, Region, Request, admit};
 
-/// The size in bytes of the CLINT's part of the map, and of those of SYSINFO, the mailbox and the DMA.
-const CLINT: u32 = 0x1_0000;
+/// The size in bytes of the CLINT's part of the map.
+const CLINT_SIZE: u32 = 0x1_0000;
 
-const SMALL: u32 = 0x100;
+/// The size in bytes of the part of the map that each of SYSINFO, the mailbox and the DMA has.
+const BLOCK_SIZE: u32 = 0x100;
 
 /// No message for any of the seven units.
-pub const SILENT: [Option<Down>; 7] = [None; 7];
+pub(crate) const SILENT: [Option<Down>; 7] = [None; 7];
 
 /// What an access gives its master, and the messages that go down to the units.
 #[derive(Clone, Copy, Debug)]
-pub struct Access {
-    pub answer: Result<u32, BusFault>,
-    pub downs: [Option<Down>; 7],
+pub(crate) struct Access {
+    pub(crate) answer: Result<u32, BusFault>,
+    pub(crate) downs: [Option<Down>; 7],
 }
 
 /// A load that gives this word.
@@ -39,13 +41,13 @@ const fn loaded(word: u32) -> Access
     }
 }
 
-/// A store that is done, with a message for each unit.
-const fn stored(downs: [Option<Down>; 7]) -> Access
-    ensures { result ≡ record { answer = Ok 0; downs = downs } }
+/// A store that is done.
+const fn stored() -> Access
+    ensures { result ≡ record { answer = Ok 0; downs = silent } }
 {
     Access {
         answer: Ok(0),
-        downs,
+        downs: SILENT,
     }
 }
 
@@ -56,6 +58,19 @@ const fn refused(fault: BusFault) -> Access
     Access {
         answer: Err(fault),
         downs: SILENT,
+    }
+}
+
+/// What an access to the registers of a unit gives, by the unit's number.
+fn at_unit(unit: u8, at: AtFront) -> Access
+    requires { (1 ≤ unit) × (unit ≤ 7) }
+    ensures { result ≡ record { answer = Ok at.word; downs = set silent (unit - 1) at.down } }
+{
+    let mut downs = SILENT;
+    downs[usize::from(unit) - 1] = at.down;
+    Access {
+        answer: Ok(at.word),
+        downs,
     }
 }
 
@@ -70,7 +85,7 @@ impl Hub {
                 downs: SILENT,
             },
             Some(value) => match self.memory.store(request.addr, request.width, value) {
-                Ok(()) => stored(SILENT),
+                Ok(()) => stored(),
                 Err(fault) => refused(fault),
             },
         }
@@ -81,12 +96,12 @@ impl Hub {
         ensures step { record { hub = self.new; answer = result.answer; downs = result.downs } ≡ in_clint self.old request.now request.now.store }
         ensures dma { self.new.dma ≡ self.old.dma }
     {
-        let offset = offset_in(CLINT, request);
+        let offset = offset_in(CLINT_SIZE, request);
         match request.store {
             None => loaded(part_of_word(request, self.clint.load(offset))),
             Some(value) => {
                 self.clint.store(offset, value);
-                stored(SILENT)
+                stored()
             }
         }
     }
@@ -96,12 +111,12 @@ impl Hub {
         ensures step { record { hub = self.new; answer = result.answer; downs = result.downs } ≡ in_mailbox self.old request.now request.now.store }
         ensures dma { self.new.dma ≡ self.old.dma }
     {
-        let offset = offset_in(SMALL, request);
+        let offset = offset_in(BLOCK_SIZE, request);
         match request.store {
             None => loaded(part_of_word(request, self.mailbox.load(offset))),
             Some(value) => {
                 self.mailbox.store(offset, value);
-                stored(SILENT)
+                stored()
             }
         }
     }
@@ -111,12 +126,12 @@ impl Hub {
         ensures step { record { hub = self.new; answer = result.answer; downs = result.downs } ≡ in_dma self.old request.now request.now.store }
         ensures dma { is_busy self.old.dma.state ≡ true → self.new.dma ≡ self.old.dma }
     {
-        let reg = offset_in(SMALL, request) as u8;
+        let reg = offset_in(BLOCK_SIZE, request) as u8;
         match request.store {
             None => loaded(part_of_word(request, self.dma.load(reg))),
             Some(value) => {
                 self.dma.store(reg, value);
-                stored(SILENT)
+                stored()
             }
         }
     }
@@ -149,64 +164,8 @@ impl Hub {
         ensures dma { self.new.dma ≡ self.old.dma }
     {
         match request.store {
-            None => loaded(part_of_word(request, self.sysinfo(offset_in(SMALL, request)))),
-            Some(_) => stored(SILENT),
-        }
-    }
-
-    fn access_uart0(&mut self, request: &Request, reg: u8) -> Access
-        requires { (reg ≡ 0) ⊎ (reg ≡ 4) }
-        ensures step { record { hub = self.new; answer = result.answer; downs = result.downs } ≡ in_uart0 self.old request.now reg request.now.store }
-        ensures dma { self.new.dma ≡ self.old.dma }
-    {
-        match request.store {
-            None => loaded(part_of_word(request, self.uart0.load(reg))),
-            Some(value) => {
-                let down = self.uart0.store(reg, value);
-                stored([down, None, None, None, None, None, None])
-            }
-        }
-    }
-
-    fn access_uart1(&mut self, request: &Request, reg: u8) -> Access
-        requires { (reg ≡ 0) ⊎ (reg ≡ 4) }
-        ensures step { record { hub = self.new; answer = result.answer; downs = result.downs } ≡ in_uart1 self.old request.now reg request.now.store }
-        ensures dma { self.new.dma ≡ self.old.dma }
-    {
-        match request.store {
-            None => loaded(part_of_word(request, self.uart1.load(reg))),
-            Some(value) => {
-                let down = self.uart1.store(reg, value);
-                stored([None, down, None, None, None, None, None])
-            }
-        }
-    }
-
-    fn access_gpio(&mut self, request: &Request, reg: u8) -> Access
-        requires { (reg ≡ 0) ⊎ (reg ≡ 4) ⊎ (reg ≡ 8) ⊎ (reg ≡ 12) }
-        ensures step { record { hub = self.new; answer = result.answer; downs = result.downs } ≡ in_gpio self.old request.now reg request.now.store }
-        ensures dma { self.new.dma ≡ self.old.dma }
-    {
-        match request.store {
-            None => loaded(part_of_word(request, self.gpio.load(reg))),
-            Some(value) => {
-                let down = self.gpio.store(reg, value);
-                stored([None, None, None, down, None, None, None])
-            }
-        }
-    }
-
-    fn access_pwm(&mut self, request: &Request, reg: u8) -> Access
-        requires { (reg ≡ 0) ⊎ (reg ≡ 4) ⊎ (reg ≡ 8) ⊎ (reg ≡ 12) ⊎ (reg ≡ 16) }
-        ensures step { record { hub = self.new; answer = result.answer; downs = result.downs } ≡ in_pwm self.old request.now reg request.now.store }
-        ensures dma { self.new.dma ≡ self.old.dma }
-    {
-        match request.store {
-            None => loaded(part_of_word(request, self.pwm.load(reg))),
-            Some(value) => {
-                let down = self.pwm.store(reg, value);
-                stored([None, None, None, None, down, None, None])
-            }
+            None => loaded(part_of_word(request, self.sysinfo(offset_in(BLOCK_SIZE, request)))),
+            Some(_) => stored(),
         }
     }
 
@@ -216,10 +175,10 @@ impl Hub {
         ensures dma { self.new.dma ≡ self.old.dma }
     {
         match unit {
-            1 => self.access_uart0(request, reg),
-            2 => self.access_uart1(request, reg),
-            4 => self.access_gpio(request, reg),
-            5 => self.access_pwm(request, reg),
+            1 => at_unit(unit, access_uart(&mut self.uart0, request, reg)),
+            2 => at_unit(unit, access_uart(&mut self.uart1, request, reg)),
+            4 => at_unit(unit, access_gpio(&mut self.gpio, request, reg)),
+            5 => at_unit(unit, access_pwm(&mut self.pwm, request, reg)),
             _ => refused(BusFault::Unmapped),
         }
     }
@@ -242,7 +201,7 @@ impl Hub {
 
     /// Makes the access of a request.
     #[tactic(auto, using(crate::proofs::Offsets::admitted_fits), unfolding(crate::specs::Access::accessed))]
-    pub fn access(&mut self, request: &Request) -> Access
+    pub(crate) fn access(&mut self, request: &Request) -> Access
         ensures step { record { hub = self.new; answer = result.answer; downs = result.downs } ≡ accessed self.old request.now }
         ensures dma { is_busy self.old.dma.state ≡ true → self.new.dma ≡ self.old.dma }
     {

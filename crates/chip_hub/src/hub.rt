@@ -49,7 +49,8 @@ impl Model for Hub {
     } };
 }
 
-/// Whether a file can be what core 0 begins with: under `Raw` exactly where it has at most `room` bytes, the size of IMEM.
+/// Whether a file can be what core 0 begins with in the boot mode `Raw`, the only one that may be asked about: exactly where it
+/// has at most `room` bytes, the size of IMEM.
 pub fn fits(boot: Boot, image: &[u8], room: u32) -> bool
     requires { boot ≡ Raw }
     ensures { result ≡ nat_le (length image.now) room }
@@ -61,7 +62,8 @@ pub fn fits(boot: Boot, image: &[u8], room: u32) -> bool
 }
 
 impl Hub {
-    /// The hub at power-on, with the bytes of a file in IMEM from address 0 on.
+    /// The hub at power-on, with the bytes of a file in IMEM from address 0 on. The boot mode must be `Raw`, and the file must fit
+    /// IMEM, as `fits` tells. Where memory is wanting for IMEM or DMEM there is no hub, and nothing stays taken.
     pub fn new(alloc: Global, setup: &Setup, boot: Boot, image: &[u8]) -> Result<Hub, NoMemory>
         requires raw { boot ≡ Raw }
         requires fits { length image.now ≤ setup.now.imem }

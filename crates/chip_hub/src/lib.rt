@@ -5,6 +5,7 @@ mod access;
 mod cycle;
 pub mod hub;
 mod parts;
+mod units;
 
 pub use hub::{Hub, fits};
 

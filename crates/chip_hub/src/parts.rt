@@ -1,11 +1,11 @@
 //! Small parts of the hub's accesses.
 ghost use Rattle.std.specs.Prelude.{◌≡◌, ◌+◌, ◌*◌, ◌/◌, ◌<◌, ◌≤◌, ◌^◌, length};
-ghost use Rattle.chip_hub.specs.Access.{offset_in, part_of_word};
+ghost use Rattle.chip_hub.specs.Parts.{offset_in, part_of_word};
 
 use soc_bus::{Request, Width};
 
 /// The bytes of a register's word that a load asks for, with zeros above.
-pub fn part_of_word(request: &Request, word: u32) -> u32
+pub(crate) fn part_of_word(request: &Request, word: u32) -> u32
     ensures { result ≡ part_of_word request.now word }
 {
     let shifted = word >> (8 * (request.addr % 4));
@@ -17,7 +17,7 @@ pub fn part_of_word(request: &Request, word: u32) -> u32
 }
 
 /// The offset of a register in a part of the map of this size in bytes.
-pub fn offset_in(size: u32, request: &Request) -> u32
+pub(crate) fn offset_in(size: u32, request: &Request) -> u32
     requires { 0 < size }
     ensures { result ≡ offset_in size request.now }
 {

@@ -1,0 +1,69 @@
+//! Accesses to the registers of the units, at their fronts.
+ghost use Rattle.std.specs.Prelude.{◌≡◌, ◌⊎◌, ℕ};
+ghost use Rattle.chip_hub.specs.Units.{at_gpio, at_pwm, at_uart};
+
+use crate::parts::part_of_word;
+use chip_base::Down;
+use soc_bus::Request;
+use unit_fronts::{GpioFront, PwmFront, UartFront};
+
+/// What an access gives at a front: the word for its master, and the message for the unit.
+#[derive(Clone, Copy, Debug)]
+pub(crate) struct AtFront {
+    pub(crate) word: u32,
+    pub(crate) down: Option<Down>,
+}
+
+pub(crate) fn access_uart(front: &mut UartFront, request: &Request, reg: u8) -> AtFront
+    requires { (reg ≡ 0) ⊎ (reg ≡ 4) }
+    ensures front { front.new ≡ (at_uart front.old request.now reg request.now.store).front }
+    ensures word { result.word ≡ (at_uart front.old request.now reg request.now.store).word }
+    ensures down { result.down ≡ (at_uart front.old request.now reg request.now.store).down }
+{
+    match request.store {
+        None => AtFront {
+            word: part_of_word(request, front.load(reg)),
+            down: None,
+        },
+        Some(value) => AtFront {
+            word: 0,
+            down: front.store(reg, value),
+        },
+    }
+}
+
+pub(crate) fn access_gpio(front: &mut GpioFront, request: &Request, reg: u8) -> AtFront
+    requires { (reg ≡ 0) ⊎ (reg ≡ 4) ⊎ (reg ≡ 8) ⊎ (reg ≡ 12) }
+    ensures front { front.new ≡ (at_gpio front.old request.now reg request.now.store).front }
+    ensures word { result.word ≡ (at_gpio front.old request.now reg request.now.store).word }
+    ensures down { result.down ≡ (at_gpio front.old request.now reg request.now.store).down }
+{
+    match request.store {
+        None => AtFront {
+            word: part_of_word(request, front.load(reg)),
+            down: None,
+        },
+        Some(value) => AtFront {
+            word: 0,
+            down: front.store(reg, value),
+        },
+    }
+}
+
+pub(crate) fn access_pwm(front: &mut PwmFront, request: &Request, reg: u8) -> AtFront
+    requires { (reg ≡ 0) ⊎ (reg ≡ 4) ⊎ (reg ≡ 8) ⊎ (reg ≡ 12) ⊎ (reg ≡ 16) }
+    ensures front { front.new ≡ (at_pwm front.old request.now reg request.now.store).front }
+    ensures word { result.word ≡ (at_pwm front.old request.now reg request.now.store).word }
+    ensures down { result.down ≡ (at_pwm front.old request.now reg request.now.store).down }
+{
+    match request.store {
+        None => AtFront {
+            word: part_of_word(request, front.load(reg)),
+            down: None,
+        },
+        Some(value) => AtFront {
+            word: 0,
+            down: front.store(reg, value),
+        },
+    }
+}
