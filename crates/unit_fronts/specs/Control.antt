@@ -22,7 +22,7 @@ pub record TellsControl (front : Port) (word : ℕ) : Type 0 where
   -- no entry may be sent
   pub full : (bit_at word 21 ≡ 1) ↔ (front.credits ≡ 0)
   pub overrun : (bit_at word 30 ≡ 1) ↔ (front.overrun ≡ true)
-  -- an entry that was sent waits in the unit
+  -- the unit has yet to give back a credit
   pub busy : (bit_at word 31 ≡ 1) ↔ (front.credits < 16)
   -- the other bits read zero
   pub below_prescaler : word / 2 % 2 ^ 2 ≡ 0
