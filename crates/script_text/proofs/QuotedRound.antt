@@ -8,7 +8,8 @@ use Rattle.hex.specs.Hex.{encode_with}
 use Rattle.hex.proofs.HexLemmas.{IsDigits-lower_digits}
 use Rattle.text_fields.specs.Fields.{Text}
 use Rattle.text_fields.specs.Quoted.{is_printable, plain, quoted, quoted_text, turn}
-use Rattle.script_text.specs.ScriptText.{is_byte, quoted_byte, stands_alone}
+use Rattle.text_fields.specs.QuotedMeaning.{stands_alone}
+use Rattle.script_text.specs.ScriptText.{is_byte, quoted_byte}
 use Rattle.script_text.proofs.Lists.{left, right}
 
 not_true : (b : Bool) → not b ≡ true → b ≡ false

@@ -4,8 +4,7 @@ use Rattle.std.specs.Prelude.{nat_le}
 use Rattle.std.specs.List.{flat_map, list_all}
 use Rattle.text_fields.specs.Fields.{Text, skip}
 use Rattle.text_fields.specs.Lines.{lines, pieces, trimmed}
-use Rattle.text_fields.specs.Quoted.{is_shown}
-use Rattle.text_fields.proofs.LinesRound.{lines_line}
+use Rattle.text_fields.proofs.LinesRound.{is_shown, lines_line}
 use Rattle.chip_base.specs.Steps.{are_pins, are_pins_from, is_pin, is_step}
 use Rattle.chip_base.specs.declared.script.PinStep.{PinStep}
 use Rattle.chip_base.specs.declared.script.Script.{Script}

@@ -10,13 +10,15 @@ use Rattle.hex.specs.Hex.{encode_lower, encode_with, hex_digit_value, lower_digi
 use Rattle.hex.proofs.HexLemmas.{IsDigits-lower_digits}
 use Rattle.text_fields.specs.Fields.{Text}
 use Rattle.text_fields.specs.Numbers.{is_digit}
-use Rattle.text_fields.specs.Quoted.{is_printable, is_shown}
+use Rattle.text_fields.specs.Quoted.{is_printable}
+use Rattle.text_fields.specs.QuotedMeaning.{stands_alone}
+use Rattle.text_fields.proofs.LinesRound.{is_shown}
 use Rattle.text_fields.proofs.PrintedNumbers.{digits_of_decimal}
 use Rattle.chip_base.specs.Steps.{is_pin, is_step}
 use Rattle.chip_base.specs.declared.script.PinStep.{PinStep}
 use Rattle.chip_base.specs.declared.script.UartStep.{UartStep}
 use Rattle.chip_base.specs.declared.script.UartStep.TheVariants as step
-use Rattle.script_text.specs.ScriptText.{has_bytes, is_byte, level_text, pin_text, quoted_byte, stands_alone, step_text}
+use Rattle.script_text.specs.ScriptText.{has_bytes, is_byte, level_text, pin_text, quoted_byte, step_text}
 use Rattle.script_text.proofs.Lists.{left, right}
 
 pub joined : (xs ys : Text) → list_all is_shown xs ≡ true → list_all is_shown ys ≡ true → list_all is_shown (xs ++ ys) ≡ true

@@ -1,10 +1,10 @@
 -- What is printed for a script.
-use Rattle.std.specs.Prelude.{ℕ, ◌==◌, ◌&&◌, Bool, true, not, [], ◌∷◌, ◌++◌, codes, if◌then◌else◌, nat_lt}
+use Rattle.std.specs.Prelude.{ℕ, Bool, true, [], ◌∷◌, ◌++◌, codes, if◌then◌else◌, nat_lt}
 use Rattle.std.specs.List.{flat_map, list_all}
 use Rattle.std.specs.Fmt.{decimal}
 use Rattle.hex.specs.Hex.{encode_lower}
 use Rattle.text_fields.specs.Fields.{Text}
-use Rattle.text_fields.specs.Quoted.{is_printable}
+use Rattle.text_fields.specs.QuotedMeaning.{stands_alone}
 use Rattle.chip_base.specs.declared.script.PinStep.{PinStep}
 use Rattle.chip_base.specs.declared.script.Script.{Script}
 use Rattle.chip_base.specs.declared.script.UartStep.{UartStep}
@@ -17,10 +17,6 @@ level_text level = if level then codes " 1" else codes " 0"
 -- a pin's change
 unfoldable pub pin_text : PinStep → Text
 pin_text p = codes "pin " ++ (decimal p.cycle ++ (codes " " ++ (decimal p.pin ++ level_text p.level)))
-
--- a byte that stands by itself in a text in double quotes
-abbrev pub stands_alone : ℕ → Bool
-stands_alone b = is_printable b && (not (b == 34) && not (b == 92))
 
 -- a byte in a text in double quotes
 unfoldable pub quoted_byte : ℕ → Text

@@ -96,7 +96,7 @@ fn with_delay_key(mut setup: Setup, key: &str, value: &Value) -> Result<Setup, K
 
 /// A fault at a key, which may be one of the table of delays.
 #[derive(Clone, Copy, Debug, Drop)]
-pub struct KeyAt<'a> {
+pub(crate) struct KeyAt<'a> {
     pub kind: KeyFault,
     pub in_delay: bool,
     pub key: &'a str,

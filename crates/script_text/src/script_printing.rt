@@ -4,7 +4,8 @@ ghost use Rattle.std.specs.Fmt.{decimal};
 ghost use Rattle.std.specs.List.{flat_map, list_all};
 ghost use Rattle.chip_base.specs.declared.script.UartStep.TheVariants.{Send};
 ghost use Rattle.script_text.specs.ScriptFile.{script_of};
-ghost use Rattle.script_text.specs.ScriptText.{ended, has_bytes, is_byte, level_text, pin_line, quoted_byte, script_text, stands_alone, step_line, step_text};
+ghost use Rattle.text_fields.specs.QuotedMeaning.{stands_alone};
+ghost use Rattle.script_text.specs.ScriptText.{ended, has_bytes, is_byte, level_text, pin_line, quoted_byte, script_text, step_line, step_text};
 
 use chip_base::{Bytes, NoMemory, PinStep, Script, UartStep};
 use std::alloc::{AllocError, Global};

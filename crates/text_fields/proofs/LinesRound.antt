@@ -1,13 +1,16 @@
 -- A line that was printed is read as this line.
 use Rattle.std.proofs.Common.{◌≡◌, ◌-◌, ℕ, suc, true, false, [], ◌∷◌, ◌++◌, length, refl, ap, ◌∙◌, arith, slice_index}
 use Rattle.std.proofs.lemmas.Bool.Decides.{nat_tests}
-use Rattle.std.specs.Prelude.{◌==◌}
+use Rattle.std.specs.Prelude.{◌==◌, Bool, nat_le}
 use Rattle.std.specs.List.{list_all}
 use Rattle.text_fields.specs.Fields.{Text}
 use Rattle.text_fields.specs.Lines.{ends_in_return, lines, pieces, trimmed, without_return}
-use Rattle.text_fields.specs.Quoted.{is_shown}
 use Rattle.text_fields.proofs.Cuts.{pieces_some, trimmed_on}
 use Rattle.text_fields.proofs.FieldRound.{left, right}
+
+-- no control character
+abbrev pub is_shown : ℕ → Bool
+is_shown c = nat_le 32 c
 
 not_feed : (c : ℕ) → is_shown c ≡ true → (c == 10) ≡ false
 not_feed c h = grind (arith, nat_tests)

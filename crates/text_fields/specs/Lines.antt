@@ -1,5 +1,6 @@
 -- The lines of a text.
-use Rattle.std.specs.Prelude.{ℕ, ◌+◌, ◌-◌, ◌==◌, ◌&&◌, Bool, not, List, [], ◌∷◌, Option, Some, None, if◌then◌else◌, nat_lt, length, slice_index, take}
+use Rattle.std.specs.Prelude.{◌≡◌, ℕ, ◌+◌, ◌-◌, ◌==◌, ◌&&◌, Bool, true, not, List, [], ◌∷◌, ◌++◌, Option, Some, None, if◌then◌else◌, nat_lt, length, slice_index, take}
+use Rattle.std.specs.List.{list_all}
 use Rattle.text_fields.specs.Fields.{Text}
 
 -- the byte put before the first line
@@ -38,6 +39,11 @@ lines text = trimmed (pieces text)
 abbrev pub lines_after : Option Text → List Text
 lines_after None = []
 lines_after (Some text) = lines text
+
+-- what follows a text's first line feed, where it has one
+abbrev pub IsRest : Text → Option Text → Type 0
+IsRest text None = list_all is_inside text ≡ true
+IsRest text (Some rest) = (front : Text) × (list_all is_inside front ≡ true) × (text ≡ front ++ 10 ∷ rest)
 
 -- its bytes, and one for its end
 abbrev pub left_size : Option Text → ℕ

@@ -17,10 +17,6 @@ escape_value c =
 abbrev pub is_printable : ℕ → Bool
 is_printable c = nat_le 32 c && nat_le c 126
 
--- no control character
-abbrev pub is_shown : ℕ → Bool
-is_shown c = nat_le 32 c
-
 -- where a text stands: between characters, after a backslash, after `\x`, and after its first digit
 pub data Mode : Type 0 where
   plain : Mode
