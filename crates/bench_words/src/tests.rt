@@ -98,6 +98,18 @@ fn reads_files_and_groups(rt: HostRuntime) -> Result<(), AllocError> {
             [0, 0, 0, 0, 0, 0, 0, 0],
         ),
         (
+            "run a.bin 10 --boot raw --script= --chip -",
+            Some("-"),
+            Some(""),
+            [0, 0, 0, 0, 0, 0, 0, 0],
+        ),
+        (
+            "run a.bin 10 --boot raw --chip  --script ",
+            Some(""),
+            Some(""),
+            [0, 0, 0, 0, 0, 0, 0, 0],
+        ),
+        (
             "run a.bin 10 --boot raw --groups each",
             none,
             none,
@@ -132,12 +144,19 @@ fn refuses_other_words(rt: HostRuntime) -> Result<(), AllocError> {
         "run a.bin 10 20 --boot raw",
         "run a.bin 10 --boot",
         "run a.bin 10 --boot=",
+        "run a.bin 10 --boot ",
         "run a.bin 10 --boot monitor",
         "run a.bin 10 --boot direct",
         "run a.bin 10 --boot RAW",
         "run a.bin 10 --bo raw",
         "run a.bin 10 --boot raw --boot raw",
         "run a.bin 10 --boot raw --chip x --chip=y",
+        "run a.bin 10 --boot raw --script x --script=y",
+        "run a.bin 10 --groups all --boot raw --groups all",
+        "run a.bin 10 --boot raw --chip",
+        "run a.bin 10 --boot raw --script",
+        "run a.bin 10 --boot raw --groups",
+        "run a.bin 10 --boot raw --script --groups all",
         "run a.bin 10 --boot raw --chip -b",
         "run a.bin 10 --boot raw --fast",
         "run a.bin 10 --boot raw --part lop",
@@ -145,8 +164,10 @@ fn refuses_other_words(rt: HostRuntime) -> Result<(), AllocError> {
         "run a.bin 10 --boot raw --help",
         "run a.bin 10 --boot raw -h",
         "run a.bin 10 --boot raw --version",
+        "run a.bin 10 --boot raw -V",
         "run a.bin 10 --boot raw --groups hub,hub",
         "run a.bin 10 --boot raw --groups=",
+        "run a.bin 10 --boot raw --groups ",
         "run a.bin 10 -- --boot raw",
         "run a.bin  --boot raw",
         "run a.bin -5 --boot raw",
@@ -163,4 +184,13 @@ fn refuses_other_words(rt: HostRuntime) -> Result<(), AllocError> {
         assert!(&rt; is_refused(rt.alloc(), line)?, "{line}");
     }
     Ok(())
+}
+
+#[test]
+fn refuses_no_words(rt: HostRuntime) {
+    let words = Vec::new(rt.alloc());
+    match read_job(rt.alloc(), &words) {
+        Ok(job) => assert!(&rt; job.is_none()),
+        Err(_) => assert!(&rt; false),
+    }
 }
