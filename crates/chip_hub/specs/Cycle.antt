@@ -120,7 +120,7 @@ unfoldable pub hub_cycle : State → ℕ → List (Option Up) → Step
 hub_cycle s now ups = served (turn1 (turn0 (timed (heard s ups)) now) now)
 
 -- the hub at power-on, with these bytes from address 0 of IMEM
-abbrev pub start : Values → List ℕ → State
+unfoldable pub start : Values → List ℕ → State
 start v image = record {
   clock = v.clock;
   core0 = reset_core 0;

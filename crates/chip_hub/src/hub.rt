@@ -64,6 +64,7 @@ pub fn fits(boot: Boot, image: &[u8], room: u32) -> bool
 impl Hub {
     /// The hub at power-on, with the bytes of a file in IMEM from address 0 on. The boot mode must be `Raw`, and the file must fit
     /// IMEM, as `fits` tells. Where memory is wanting for IMEM or DMEM there is no hub, and nothing stays taken.
+    #[tactic(auto, unfolding(crate::specs::Cycle::start))]
     pub fn new(alloc: Global, setup: &Setup, boot: Boot, image: &[u8]) -> Result<Hub, NoMemory>
         requires raw { boot ≡ Raw }
         requires fits { length image.now ≤ setup.now.imem }

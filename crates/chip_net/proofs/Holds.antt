@@ -11,6 +11,7 @@ use Rattle.chip_base.specs.declared.script.Script.{Script}
 use Rattle.chip_base.specs.declared.setup.Setup.{Setup}
 use Rattle.board_units.specs.GpioCycle.{gpio_cycle}
 use Rattle.chip_base.specs.Messages.{credit_in, data_in}
+use Rattle.chip_hub.specs.Cycle.{start as hub_start}
 use Rattle.chip_hub.proofs.Fronts.{gpio_hears, pwm_hears, serves_gpio, serves_pwm, serves_uart0, serves_uart1}
 use Rattle.delay_line.specs.Queue.{empty_line}
 use Rattle.soc_words.specs.Line.{first_of, moved}
@@ -100,21 +101,27 @@ delay_of_unit v place d l = delay_at v.delay place d.each (omega (arith, d.lanes
 places_empty : (delay : ℕ) → 1 ≤ delay → HasPlaces (empty_line delay) (empty_line delay)
 places_empty delay l = record { down = empty_some Down delay l; up = empty_some Up delay l }
 
+start_places : (v : Values) (image : List ℕ) (script : Script) → DelaysFit v → LinesHavePlaces (start v image script)
+unfolding start
+start_places v image script d = record {
+  uart0 = places_empty (delay_of v 0) (delay_of_unit v 0 d (omega arith));
+  uart1 = places_empty (delay_of v 1) (delay_of_unit v 1 d (omega arith));
+  gpio = places_empty (delay_of v 3) (delay_of_unit v 3 d (omega arith));
+  pwm = places_empty (delay_of v 4) (delay_of_unit v 4 d (omega arith));
+}
+
+start_credits : (v : Values) (image : List ℕ) (script : Script) → CreditsHold (start v image script)
+unfolding start hub_start
+start_credits v image script = record {
+  uart0 = start_has (delay_of v 0) (delay_of v 0);
+  uart1 = start_has (delay_of v 1) (delay_of v 1);
+  gpio = answers_start (delay_of v 3) (delay_of v 3);
+  pwm = answers_start (delay_of v 4) (delay_of v 4);
+}
+
 -- in every state that the chip reaches, the credits of each unit are where they should be
 pub credits_hold : (v : Values) (image : List ℕ) (script : Script) (n : ℕ) → DelaysFit v → CreditsHold (after (start v image script) n)
-credits_hold v image script n d = credits_after (start v image script) n
-    (record {
-      uart0 = places_empty (delay_of v 0) (delay_of_unit v 0 d (omega arith));
-      uart1 = places_empty (delay_of v 1) (delay_of_unit v 1 d (omega arith));
-      gpio = places_empty (delay_of v 3) (delay_of_unit v 3 d (omega arith));
-      pwm = places_empty (delay_of v 4) (delay_of_unit v 4 d (omega arith));
-    })
-    (record {
-      uart0 = start_has (delay_of v 0) (delay_of v 0);
-      uart1 = start_has (delay_of v 1) (delay_of v 1);
-      gpio = answers_start (delay_of v 3) (delay_of v 3);
-      pwm = answers_start (delay_of v 4) (delay_of v 4);
-    })
+credits_hold v image script n d = credits_after (start v image script) n (start_places v image script d) (start_credits v image script)
 
 -- where the unit has room for the entries that come, none is lost
 uart_loses_none : (p : Port) (downs : List (Option Down)) (s : Uart) (ups : List (Option Up)) (now : ℕ) → HasSixteen p downs (length s.fifo) ups
@@ -176,11 +183,16 @@ unfolding after
 events_after c zero m h = h
 events_after c (suc n) m h = events_tick (after c n) (numbers_after c n m) (events_after c n m h)
 
+start_numbers : (v : Values) (image : List ℕ) (script : Script) → NumbersStay (start v image script)
+unfolding start
+start_numbers v image script = record { uart0 = refl; uart1 = refl }
+
 -- in every state that the chip reaches, its events are in order
 pub events_ordered : (v : Values) (image : List ℕ) (script : Script) (n : ℕ) → AreOrderedBefore n (after (start v image script) n).events
+unfolding start
 events_ordered v image script n =
     let all : EndBefore (after (start v image script) n).cycle 0 (after (start v image script) n).events
-    = events_after (start v image script) n (record { uart0 = refl; uart1 = refl }) (record { order = tt; before = tt }) in
+    = events_after (start v image script) n (start_numbers v image script) (record { order = tt; before = tt }) in
     let now : (after (start v image script) n).cycle ≡ n = cycle_after (start v image script) n ∙ omega arith in
     subst (λ cycle. AreOrderedBefore cycle (after (start v image script) n).events) now (are_past _ _ all)
 

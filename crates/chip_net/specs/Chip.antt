@@ -1,5 +1,6 @@
 -- The chip: the hub and its units, joined by delay lines and stepped at once.
-use Rattle.std.specs.Prelude.{ℕ, zero, suc, List, [], ◌∷◌, ◌++◌, Option, None, get_or, option_to_list}
+use Rattle.std.specs.Prelude.{ℕ, zero, suc, Bool, true, false, List, [], ◌∷◌, ◌++◌, Option, None, get_or, if◌then◌else◌, option_to_list}
+use Rattle.std.specs.List.{list_any}
 use Rattle.board_units.specs.GpioCycle.{gpio_cycle}
 use Rattle.board_units.specs.GpioState.{GpioState, power_on as pins_on}
 use Rattle.board_units.specs.PwmCycle.{pwm_cycle}
@@ -9,6 +10,8 @@ use Rattle.chip_base.specs.declared.event.Event.{Event}
 use Rattle.chip_base.specs.declared.message.Down.{Down}
 use Rattle.chip_base.specs.declared.message.Up.{Up}
 use Rattle.chip_base.specs.declared.script.Script.{Script}
+use Rattle.chip_base.specs.declared.script.UartStep.{UartStep}
+use Rattle.chip_base.specs.declared.script.UartStep.TheVariants.{Image}
 use Rattle.chip_base.specs.Settings.{Values}
 use Rattle.chip_hub.specs.Cycle.{hub_cycle, start as hub_start}
 use Rattle.chip_hub.specs.State.{State as Hub, Step}
@@ -36,6 +39,12 @@ pub record State : Type 0 where
   pub cycle : ℕ
   -- all events since power-on, by cycle and then by unit
   pub events : List Event
+
+-- the places of a unit's two links, and the cycle that is next to be stepped
+pub record LinkState : Type 0 where
+  pub cycle : ℕ
+  pub down : List (Option Down)
+  pub up : List (Option Up)
 
 -- what arrives at the hub in this cycle, by unit
 abbrev pub arriving : State → List (Option Up)
@@ -79,12 +88,21 @@ after c (suc n) = tick (after c n)
 abbrev pub delay_of : Values → ℕ → ℕ
 delay_of v place = get_or v.delay place 0
 
+-- a step that sends the bytes of the image file
+abbrev pub is_image : UartStep → Bool
+is_image Image = true
+is_image other = false
+
+-- the bytes that a UART with these steps needs of the image file
+abbrev pub image_for : List UartStep → List ℕ → List ℕ
+image_for steps image = if list_any is_image steps then image else []
+
 -- the chip at power-on, with the bytes of a file from address 0 of IMEM and a script to come: nothing is on its way, and no event has come
-abbrev pub start : Values → List ℕ → Script → State
+unfoldable pub start : Values → List ℕ → Script → State
 start v image script = record {
   hub = hub_start v image;
-  uart0 = power_on 1 script.uart0 image;
-  uart1 = power_on 2 script.uart1 image;
+  uart0 = power_on 1 script.uart0 (image_for script.uart0 image);
+  uart1 = power_on 2 script.uart1 (image_for script.uart1 image);
   gpio = pins_on script.pins;
   pwm = pwm_reset;
   down_uart0 = empty_line (delay_of v 0);

@@ -1,26 +1,28 @@
 //! The chip.
 ghost use Rattle.std.specs.Prelude.{option_to_list, ◌≡◌, ℕ, ◌<◌, ◌≤◌, ◌+◌, ◌++◌, ◌^◌, [], length, List, IfOk, OnOk, IfSome, slice_range};
 ghost use Rattle.std.specs.Int.{w32, to_le_bytes};
+ghost use Rattle.std.specs.List.{list_any};
 ghost use Rattle.chip_base.specs.Settings.{values_of};
 ghost use Rattle.chip_base.specs.declared.event.Event.{Event};
 ghost use Rattle.chip_base.specs.declared.boot.Boot.TheVariants.{Raw};
 ghost use Rattle.chip_hub.specs.Cycle.{boot_view, csr_at, hart_view, word_at};
 ghost use Rattle.soc_bus.specs.Memory.{IsSize, held_by, place_of};
-ghost use Rattle.chip_net.specs.Chip.{after, arriving, delay_of, start, tick};
+ghost use Rattle.chip_net.specs.Chip.{after, arriving, image_for, is_image, start, tick};
 ghost use Rattle.chip_net.specs.Chip.{State};
-ghost use Rattle.delay_line.specs.Queue.{empty_line};
 ghost use Rattle.chip_net.specs.Credits.{CreditsHold, LosesNone};
 ghost use Rattle.chip_net.specs.Order.{AreOrderedBefore};
 
+use crate::links::Links;
 use board_units::{Gpio, Pwm};
 use chip_base::{
-    Boot, BootView, Bytes, Cycle, Down, Event, Groups, HartView, NoMemory, Script, Setup, Steps0,
-    Up,
+    Boot, BootView, Bytes, Cycle, Event, Groups, HartView, NoMemory, Script, Setup, Steps, Steps0,
+    UartStep,
 };
 use chip_hub::Hub;
-use delay_line::DelayLine;
 use std::alloc::Global;
 use std::marker::Model;
+use std::sync::ledger::Ledger;
+use std::thread::Threads;
 use uart_lane::Uart;
 
 /// The chip: the hub, its units, and the links between them.
@@ -33,14 +35,10 @@ pub struct Chip {
     uart1: Uart,
     gpio: Gpio,
     pwm: Pwm,
-    down_uart0: DelayLine<Down>,
-    up_uart0: DelayLine<Up>,
-    down_uart1: DelayLine<Down>,
-    up_uart1: DelayLine<Up>,
-    down_gpio: DelayLine<Down>,
-    up_gpio: DelayLine<Up>,
-    down_pwm: DelayLine<Down>,
-    up_pwm: DelayLine<Up>,
+    uart0_links: Links,
+    uart1_links: Links,
+    gpio_links: Links,
+    pwm_links: Links,
     cycle: Cycle,
     events: Vec<Event>,
 }
@@ -58,29 +56,47 @@ impl Model for Chip {
       uart1 = c.uart1;
       gpio = c.gpio;
       pwm = c.pwm;
-      down_uart0 = c.down_uart0.places;
-      up_uart0 = c.up_uart0.places;
-      down_uart1 = c.down_uart1.places;
-      up_uart1 = c.up_uart1.places;
-      down_gpio = c.down_gpio.places;
-      up_gpio = c.up_gpio.places;
-      down_pwm = c.down_pwm.places;
-      up_pwm = c.up_pwm.places;
+      down_uart0 = c.uart0_links.down;
+      up_uart0 = c.uart0_links.up;
+      down_uart1 = c.uart1_links.down;
+      up_uart1 = c.uart1_links.up;
+      down_gpio = c.gpio_links.down;
+      up_gpio = c.gpio_links.up;
+      down_pwm = c.pwm_links.down;
+      up_pwm = c.pwm_links.up;
       cycle = c.cycle;
       events = c.events.items;
     } };
 
-    ghost invariant = { λ c. (c.down_uart0.cycle ≡ c.cycle) × (c.up_uart0.cycle ≡ c.cycle) × (c.down_uart1.cycle ≡ c.cycle) × (c.up_uart1.cycle ≡ c.cycle)
-        × (c.down_gpio.cycle ≡ c.cycle) × (c.up_gpio.cycle ≡ c.cycle) × (c.down_pwm.cycle ≡ c.cycle) × (c.up_pwm.cycle ≡ c.cycle) };
+    ghost invariant = { λ c. (c.uart0_links.cycle ≡ c.cycle) × (c.uart1_links.cycle ≡ c.cycle) × (c.gpio_links.cycle ≡ c.cycle)
+        × (c.pwm_links.cycle ≡ c.cycle) };
 }
 
-/// A link of a unit, by the unit's place among the settings' delays.
-#[tactic(auto, using(crate::proofs::Delays::delay_at))]
-fn link<M: Copy>(alloc: Global, setup: &Setup, place: usize) -> Result<DelayLine<M>, NoMemory>
-    requires { place < 7 }
-    ensures { IfOk result (λ l. l ≡ record { cycle = 0; places = empty_line (delay_of (values_of setup.now) place) }) }
+/// Whether a step sends the bytes of the image file.
+fn sends_image(steps: &[UartStep]) -> bool
+    ensures { result ≡ list_any is_image steps.now }
 {
-    DelayLine::new(alloc, setup.delay[place])
+    for step in steps {
+        if let UartStep::Image = step {
+            return true;
+        }
+    }
+    false
+}
+
+/// The bytes that a UART with these steps needs of the image file: all of them where a step sends the image, and else none.
+fn image_for(alloc: Global, steps: &Steps0, image: &[u8]) -> Result<Bytes, NoMemory>
+    ensures { IfOk result (λ bytes. bytes ≡ image_for steps.now image.now) }
+{
+    let needed = if sends_image(steps.as_slice()) {
+        image
+    } else {
+        &[]
+    };
+    match Vec::from_slice(alloc, needed) {
+        Ok(bytes) => Ok(Bytes::from_vec(bytes)),
+        Err(_) => Err(NoMemory),
+    }
 }
 
 /// Appends an event, where one came.
@@ -111,6 +127,7 @@ impl Chip {
         requires raw { boot ≡ Raw }
         requires fits { length image.items ≤ setup.now.imem }
         ensures chip { IfOk result (λ chip. chip ≡ start (values_of setup.now) image.items script) }
+        ensures now { IfOk result (λ chip. chip.cycle ≡ 0) }
         ensures credits { (n : ℕ) → CreditsHold (after (start (values_of setup.now) image.items script) n) }
         ensures none_lost { (n : ℕ) → LosesNone (after (start (values_of setup.now) image.items script) n) }
         ensures order { (n : ℕ) → AreOrderedBefore n (after (start (values_of setup.now) image.items script) n).events }
@@ -119,6 +136,7 @@ impl Chip {
     }
 
     /// The chip at power-on, on one thread.
+    #[tactic(auto, unfolding(crate::specs::Chip::start))]
     fn built(
         alloc: Global,
         setup: &Setup,
@@ -128,35 +146,26 @@ impl Chip {
     ) -> Result<Chip, NoMemory>
         requires raw { boot ≡ Raw }
         requires fits { length image.items ≤ setup.now.imem }
-        ensures { IfOk result (λ chip. chip ≡ start (values_of setup.now) image.items script) }
+        ensures chip { IfOk result (λ chip. chip ≡ start (values_of setup.now) image.items script) }
+        ensures now { IfOk result (λ chip. chip.cycle ≡ 0) }
     {
         let hub = Hub::new(alloc, setup, boot, &image)?;
-        let Ok(copy) = Vec::from_slice(alloc, &image) else {
-            return Err(NoMemory);
-        };
-        let copy = Bytes::from_vec(copy);
-        let down_uart0 = link(alloc, setup, 0)?;
-        let up_uart0 = link(alloc, setup, 0)?;
-        let down_uart1 = link(alloc, setup, 1)?;
-        let up_uart1 = link(alloc, setup, 1)?;
-        let down_gpio = link(alloc, setup, 3)?;
-        let up_gpio = link(alloc, setup, 3)?;
-        let down_pwm = link(alloc, setup, 4)?;
-        let up_pwm = link(alloc, setup, 4)?;
+        let image0 = image_for(alloc, &script.uart0, &image)?;
+        let image1 = image_for(alloc, &script.uart1, &image)?;
+        let uart0_links = Links::new(alloc, setup, 0)?;
+        let uart1_links = Links::new(alloc, setup, 1)?;
+        let gpio_links = Links::new(alloc, setup, 3)?;
+        let pwm_links = Links::new(alloc, setup, 4)?;
         Ok(Chip {
             hub,
-            uart0: Uart::new(1, script.uart0, Bytes::from_vec(image)),
-            uart1: Uart::new(2, script.uart1, copy),
+            uart0: Uart::new(1, script.uart0, image0),
+            uart1: Uart::new(2, script.uart1, image1),
             gpio: Gpio::new(script.pins),
             pwm: Pwm::new(),
-            down_uart0,
-            up_uart0,
-            down_uart1,
-            up_uart1,
-            down_gpio,
-            up_gpio,
-            down_pwm,
-            up_pwm,
+            uart0_links,
+            uart1_links,
+            gpio_links,
+            pwm_links,
             cycle: 0,
             events: Vec::new(alloc),
         })
@@ -169,27 +178,23 @@ impl Chip {
         ensures { OnOk result (self.new ≡ tick self.old) }
     {
         let ups = [
-            self.up_uart0.arriving(),
-            self.up_uart1.arriving(),
+            self.uart0_links.at_front(),
+            self.uart1_links.at_front(),
             None,
-            self.up_gpio.arriving(),
-            self.up_pwm.arriving(),
+            self.gpio_links.at_front(),
+            self.pwm_links.at_front(),
             None,
             None,
         ];
         let downs = self.hub.cycle(self.cycle, &ups);
-        let uart0 = self.uart0.cycle(self.cycle, self.down_uart0.arriving());
-        let uart1 = self.uart1.cycle(self.cycle, self.down_uart1.arriving());
-        let gpio = self.gpio.cycle(self.cycle, self.down_gpio.arriving());
-        let pwm = self.pwm.cycle(self.cycle, self.down_pwm.arriving());
-        self.down_uart0.step(downs[0]);
-        self.up_uart0.step(uart0.up);
-        self.down_uart1.step(downs[1]);
-        self.up_uart1.step(uart1.up);
-        self.down_gpio.step(downs[3]);
-        self.up_gpio.step(gpio.up);
-        self.down_pwm.step(downs[4]);
-        self.up_pwm.step(pwm.up);
+        let uart0 = self.uart0.cycle(self.cycle, self.uart0_links.at_unit());
+        let uart1 = self.uart1.cycle(self.cycle, self.uart1_links.at_unit());
+        let gpio = self.gpio.cycle(self.cycle, self.gpio_links.at_unit());
+        let pwm = self.pwm.cycle(self.cycle, self.pwm_links.at_unit());
+        self.uart0_links.step(downs[0], uart0.up);
+        self.uart1_links.step(downs[1], uart1.up);
+        self.gpio_links.step(downs[3], gpio.up);
+        self.pwm_links.step(downs[4], pwm.up);
         self.cycle += 1;
         keep(&mut self.events, uart0.event)?;
         keep(&mut self.events, uart1.event)?;
@@ -203,10 +208,19 @@ impl Chip {
 impl Chip {
     /// Steps the chip this many cycles, at most 4,096. The events of the run before are forgotten; whatever events came before,
     /// those of this run follow them. After a refusal for want of memory the chip is only dropped.
+    ///
+    /// All lanes run together on the thread of the call: no thread is started, and `steps`, the counter of rounds over lanes that
+    /// run apart, stays as it is.
     #[tactic(auto, using(crate::proofs::Runs::after_zero, crate::proofs::Runs::after_more, crate::proofs::Runs::cycle_after))]
-    pub fn run(&mut self, cycles: u32) -> Result<(), NoMemory>
+    pub fn run<R: Threads + Sync, C: Ledger>(
+        &mut self,
+        rt: &R,
+        cycles: u32,
+        steps: &mut Steps<C>,
+    ) -> Result<(), NoMemory>
         requires cycles { cycles ≤ 4096 }
         requires time { self.old.cycle + cycles + 4096 < 2 ^ 64 }
+        ensures rounds { steps.new ≡ steps.old }
         ensures state { OnOk result (self.new ≡ after (record self.old { events = [] }) cycles) }
         ensures now { OnOk result (self.new.cycle ≡ self.old.cycle + cycles) }
         ensures whole { OnOk result ((before : List Event) → after (record self.old { events = before }) cycles ≡ record self.new { events = before ++ self.new.events }) }

@@ -2,6 +2,7 @@
 #![tactic(auto)]
 
 pub mod chip;
+mod links;
 #[cfg(test)]
 mod tests;
 

@@ -1,11 +1,15 @@
 //! A program that sends a byte by uart0, with the cycles that the delay and the frame of ten bits give.
-ghost use Rattle.std.specs.Prelude.{◌≡◌, IfOk};
+ghost use Rattle.std.specs.Prelude.{◌≡◌, ◌≤◌, ◌<◌, ◌+◌, ◌^◌, IfOk, OnOk};
 
 use crate::Chip;
 use chip_base::{
-    Boot, BootView, Bytes, Event, EventKind, Groups, PhaseWord, Pins, Script, Setup, Steps0,
+    Boot, BootView, Event, EventKind, Groups, NoMemory, PhaseWord, Pins, Script, Setup, Steps,
+    Steps0,
 };
+use std::marker::Brand;
+use std::sync::ledger::{Blank, Ledger};
 use std::test::Fail;
+use std::thread::Threads;
 
 /// lui x1, 0xfff50; addi x2, x0, 1; sw x2, 0(x1); addi x2, x0, 0x41; sw x2, 4(x1); jal x0, 0
 const PROGRAM: [u8; 24] = [
@@ -14,7 +18,7 @@ const PROGRAM: [u8; 24] = [
 ];
 
 /// The chip of the standard settings, with the program from address 0 on.
-fn chip(rt: HostRuntime) -> Result<Chip, Fail>
+fn chip(rt: &HostRuntime) -> Result<Chip, Fail>
     ensures { IfOk result (λ chip. chip.cycle ≡ 0) }
 {
     let alloc = rt.alloc();
@@ -28,30 +32,56 @@ fn chip(rt: HostRuntime) -> Result<Chip, Fail>
     Ok(Chip::new(alloc, &Setup::standard(), Boot::Raw, image, script, &groups)?)
 }
 
+/// Runs the chip, with a counter of rounds over a blank ledger.
+fn run_counted<R: Threads + Sync, C: Ledger>(
+    rt: &R,
+    chip: &mut Chip,
+    cycles: u32,
+    blank: Blank,
+) -> Result<(), NoMemory>
+    requires name { blank.name ≡ C.name }
+    requires parts { blank.parts ≡ C.parts }
+    requires one { 0 < blank.parts }
+    requires cycles { cycles ≤ 4096 }
+    requires time { chip.old.cycle + cycles + 4096 < 2 ^ 64 }
+    ensures { OnOk result (chip.new.cycle ≡ chip.old.cycle + cycles) }
+{
+    let mut steps = Steps::<C>::new(blank);
+    chip.run(rt, cycles, &mut steps)
+}
+
+fn run<R: Threads + Sync>(rt: &R, chip: &mut Chip, cycles: u32) -> Result<(), NoMemory>
+    requires cycles { cycles ≤ 4096 }
+    requires time { chip.old.cycle + cycles + 4096 < 2 ^ 64 }
+    ensures { OnOk result (chip.new.cycle ≡ chip.old.cycle + cycles) }
+{
+    run_counted::<R, Brand>(rt, chip, cycles, Blank::new(1))
+}
+
 /// The byte is stored in cycle 11, comes to the unit in cycle 43, and has left after the twenty cycles of its frame.
 #[test]
 fn byte_in_time(rt: HostRuntime) -> Result<(), Fail> {
-    let mut chip = chip(rt)?;
+    let mut chip = chip(&rt)?;
     let wanted = Event {
         cycle: 62,
         unit: 1,
         kind: EventKind::Tx,
         value: 0x41,
     };
-    chip.run(62)?;
+    run(&rt, &mut chip, 62)?;
     assert!(rt; chip.events().is_empty());
-    chip.run(1)?;
+    run(&rt, &mut chip, 1)?;
     assert_eq!(rt; chip.events(), [wanted].as_slice());
     assert_eq!(rt; chip.now(), 63);
-    chip.run(1)?;
+    run(&rt, &mut chip, 1)?;
     assert!(rt; chip.events().is_empty());
     Ok(())
 }
 
 #[test]
 fn views(rt: HostRuntime) -> Result<(), Fail> {
-    let mut chip = chip(rt)?;
-    chip.run(63)?;
+    let mut chip = chip(&rt)?;
+    run(&rt, &mut chip, 63)?;
     assert_eq!(rt; chip.events().len(), 1);
     let hart = chip.hart(0);
     assert_eq!(rt; hart.phase, PhaseWord::Run);

@@ -74,6 +74,6 @@ pub fn bench<R: Threads + Sync, S: Shelf, O: Sink>(
     ensures reads_later { S.read_faults shelf.old ≤ S.read_faults shelf.new }
     ensures puts_later { O.faults out.old ≤ O.faults out.new }
 {
-    let outcome = decide(alloc, words, shelf);
+    let outcome = decide(rt, alloc, words, shelf);
     tell(alloc, &outcome, out)
 }

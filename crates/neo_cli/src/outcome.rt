@@ -10,6 +10,7 @@ use bench_shelf::Shelf;
 use bench_words::{RunJob, read_job};
 use chip_base::NoMemory;
 use std::alloc::Global;
+use std::thread::Threads;
 
 /// What doing what the words ask for comes to.
 #[derive(Drop)]
@@ -23,7 +24,12 @@ pub enum Outcome<'a> {
 }
 
 /// Reads the files of a job in their order, and runs the chip.
-fn run_job<'a, S: Shelf>(alloc: Global, job: &RunJob<'a>, shelf: &mut S) -> Result<Run, Refusal<'a>>
+fn run_job<'a, R: Threads + Sync, S: Shelf>(
+    rt: &R,
+    alloc: Global,
+    job: &RunJob<'a>,
+    shelf: &mut S,
+) -> Result<Run, Refusal<'a>>
     ensures decides { RunDecides (S.told shelf.old) (job_view job.now) (S.file shelf.old) (S.read_faults shelf.old) (S.read_faults shelf.new) result }
     ensures later { S.read_faults shelf.old ≤ S.read_faults shelf.new }
     ensures told_stays { S.told shelf.new ≡ S.told shelf.old }
@@ -33,14 +39,19 @@ fn run_job<'a, S: Shelf>(alloc: Global, job: &RunJob<'a>, shelf: &mut S) -> Resu
     let setup = read_settings(alloc, job.chip, shelf)?;
     let image = read_image(alloc, setup.imem, job.image, shelf)?;
     let script = read_steps(alloc, job.script, shelf)?;
-    match Run::over(alloc, &setup, image, script, &job.groups, job.cycles) {
+    match Run::over(rt, alloc, &setup, image, script, &job.groups, job.cycles) {
         Ok(run) => Ok(run),
         Err(NoMemory) => Err(Refusal::Memory),
     }
 }
 
 /// Does what the words ask for, but for the telling.
-pub fn decide<'a, S: Shelf>(alloc: Global, words: &'a [String], shelf: &mut S) -> Outcome<'a>
+pub fn decide<'a, R: Threads + Sync, S: Shelf>(
+    rt: &R,
+    alloc: Global,
+    words: &'a [String],
+    shelf: &mut S,
+) -> Outcome<'a>
     ensures decides { Decides (S.told shelf.old) (job_of (map string_bytes words.entry.now)) (S.file shelf.old) (S.read_faults shelf.old)
         (S.read_faults shelf.new) result }
     ensures later { S.read_faults shelf.old ≤ S.read_faults shelf.new }
@@ -51,7 +62,7 @@ pub fn decide<'a, S: Shelf>(alloc: Global, words: &'a [String], shelf: &mut S) -
     match read_job(alloc, words) {
         Err(NoMemory) => Outcome::Refused(Refusal::Memory),
         Ok(None) => Outcome::Usage,
-        Ok(Some(job)) => match run_job(alloc, &job, shelf) {
+        Ok(Some(job)) => match run_job(rt, alloc, &job, shelf) {
             Ok(run) => Outcome::Ran {
                 run,
                 cycles: job.cycles,

@@ -3,10 +3,12 @@ ghost use Rattle.std.specs.Prelude.{◌≡◌, ◌+◌, ◌^◌, ◌<◌, ◌≤
 ghost use Rattle.chip_base.specs.Settings.{values_of};
 ghost use Rattle.chip_net.specs.Chip.{after, start};
 
-use chip_base::{Boot, Event, Groups, NoMemory, Script, Setup};
+use chip_base::{Boot, Event, Groups, NoMemory, Script, Setup, Steps};
 use chip_net::Chip;
 use std::alloc::Global;
-use std::marker::Model;
+use std::marker::{Brand, Model};
+use std::sync::ledger::{Blank, Ledger};
+use std::thread::Threads;
 
 /// The cycles of a whole stretch.
 const STRETCH: u32 = 4_096;
@@ -28,6 +30,7 @@ impl Model for Run {
 
 impl Run {
     /// The chip at power-on, with the bytes of a file in IMEM from address 0 on.
+    #[tactic(auto, unfolding(chip_net::specs::Chip::start))]
     fn new(
         alloc: Global,
         setup: &Setup,
@@ -36,7 +39,8 @@ impl Run {
         groups: &Groups,
     ) -> Result<Run, NoMemory>
         requires { length image.items ≤ setup.now.imem }
-        ensures { IfOk result (λ run. run ≡ start (values_of setup.now) image.items script) }
+        ensures run { IfOk result (λ run. run ≡ start (values_of setup.now) image.items script) }
+        ensures first { IfOk result (λ run. run.cycle ≡ 0) }
     {
         let chip = Chip::new(alloc, setup, Boot::Raw, image, script, groups)?;
         Ok(Run {
@@ -47,20 +51,47 @@ impl Run {
 
     /// Steps the chip this many cycles, at most 4,096. After a refusal for want of memory the run is only dropped.
     #[tactic(auto, using(chip_net::proofs::Runs::after_events))]
-    fn step(&mut self, cycles: u32) -> Result<(), NoMemory>
+    fn step<R: Threads + Sync, C: Ledger>(
+        &mut self,
+        rt: &R,
+        cycles: u32,
+        steps: &mut Steps<C>,
+    ) -> Result<(), NoMemory>
         requires cycles { cycles ≤ 4096 }
         requires time { self.old.cycle + cycles + 4096 < 2 ^ 64 }
         ensures { OnOk result (self.new ≡ after self.old cycles) }
     {
-        self.chip.run(cycles)?;
+        self.chip.run(rt, cycles, steps)?;
         match self.events.extend_from_slice(self.chip.events()) {
             Ok(()) => Ok(()),
             Err(_) => Err(NoMemory),
         }
     }
 
+    /// Steps a chip at power-on this many cycles, in whole stretches and one rest, with a counter of its own over a blank ledger.
+    fn stretches<R: Threads + Sync, C: Ledger>(
+        &mut self,
+        rt: &R,
+        cycles: u32,
+        blank: Blank,
+    ) -> Result<(), NoMemory>
+        requires name { blank.name ≡ C.name }
+        requires parts { blank.parts ≡ C.parts }
+        requires one { 0 < blank.parts }
+        requires first { self.old.cycle ≡ 0 }
+        ensures { OnOk result (self.new ≡ after self.old cycles) }
+    {
+        let mut steps = Steps::<C>::new(blank);
+        for _ in 0..cycles / STRETCH {
+            self.step(rt, STRETCH, &mut steps)?;
+        }
+        self.step(rt, cycles % STRETCH, &mut steps)?;
+        Ok(())
+    }
+
     /// The run of this many cycles from power-on, if there is memory for it. How the lanes are grouped doesn't change it.
-    pub fn over(
+    pub fn over<R: Threads + Sync>(
+        rt: &R,
         alloc: Global,
         setup: &Setup,
         image: Vec<u8>,
@@ -72,10 +103,7 @@ impl Run {
         ensures { IfOk result (λ run. run ≡ after (start (values_of setup.now) image.items script) cycles) }
     {
         let mut run = Run::new(alloc, setup, image, script, groups)?;
-        for _ in 0..cycles / STRETCH {
-            run.step(STRETCH)?;
-        }
-        run.step(cycles % STRETCH)?;
+        run.stretches::<R, Brand>(rt, cycles, Blank::new(1))?;
         Ok(run)
     }
 

@@ -5,7 +5,7 @@ use Rattle.chip_net.proofs.Runs.{after_events}
 use Rattle.chip_net.proofs.chip.Chip.run.Goals as goal
 
 pub returns-clause-whole : goal.returns-clause-whole
-returns-clause-whole c before =
+returns-clause-whole g c before =
     let begun : State = record c.args.self.now { events = [] } in
     let state : c.loop.self ≡ after begun c.args.cycles = grind (arith, common_steps) in
     after_events c.args.self.now before c.args.cycles ∙ ap {A = State} {B = State} (λ s. record s { events = before ++ s.events }) (sym state)

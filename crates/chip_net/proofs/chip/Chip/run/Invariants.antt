@@ -3,4 +3,4 @@ use Rattle.chip_net.specs.Chip.{after}
 use Rattle.chip_net.proofs.chip.Chip.run.Given as goal
 
 abbrev pub invariant-loop : goal.invariant-loop
-invariant-loop l = l.self ≡ after l.initial.self l.counter
+invariant-loop g l = l.self ≡ after l.initial.self l.counter

@@ -1,7 +1,4 @@
-use Rattle.std.proofs.Common.{◌≡◌, ◌*◌}
-use Rattle.chip_base.specs.Settings.{values_of}
-use Rattle.chip_net.specs.Chip.{after, start}
 use Rattle.neo_cli.proofs.run.Run.over.Given as goal
 
-abbrev pub invariant-loop : goal.invariant-loop
-invariant-loop l = l.run ≡ after (start (values_of l.setup) l.fn.image.items l.fn.script) (4096 * l.counter)
+abbrev pub ghosts-stretches : goal.ghosts-stretches
+ghosts-stretches g a = record { name = a.blank.name; parts = a.blank.parts }
