@@ -1,21 +1,23 @@
 -- What holds in every state that the chip reaches.
-use Rattle.std.proofs.Common.{◌≡◌, ◌≤◌, ◌<◌, ℕ, zero, suc, ◌+◌, List, [], ◌∷◌, ◌++◌, length, Option, None, refl, subst, ◌∙◌, arith}
+use Rattle.std.proofs.Common.{◌≡◌, ◌≤◌, ◌<◌, ℕ, zero, suc, ◌+◌, List, [], ◌∷◌, ◌++◌, length, Option, None, refl, subst, ap, sym, ◌∙◌, arith, append-nil}
 use Rattle.std.specs.Prelude.{true, get_or, option_to_list}
 use Rattle.std.specs.List.{list_all}
 use Rattle.std.proofs.lemmas.Bool.Decides.{nat_tests}
 use Rattle.chip_base.specs.Ranges.{is_delay}
 use Rattle.chip_base.specs.Settings.{Values, values_of}
+use Rattle.chip_base.specs.declared.event.Event.{Event}
 use Rattle.chip_base.specs.declared.message.Down.{Down}
 use Rattle.chip_base.specs.declared.message.Up.{Up}
 use Rattle.chip_base.specs.declared.script.Script.{Script}
 use Rattle.chip_base.specs.declared.setup.Setup.{Setup}
 use Rattle.board_units.specs.GpioCycle.{gpio_cycle}
+use Rattle.board_units.specs.PwmCycle.{pwm_cycle}
 use Rattle.chip_base.specs.Messages.{credit_in, data_in}
 use Rattle.chip_hub.specs.Cycle.{start as hub_start}
 use Rattle.chip_hub.proofs.Fronts.{gpio_hears, pwm_hears, serves_gpio, serves_pwm, serves_uart0, serves_uart1}
 use Rattle.delay_line.specs.Queue.{empty_line}
 use Rattle.soc_words.specs.Line.{first_of, moved}
-use Rattle.uart_lane.specs.Counts.{KeepsCount}
+use Rattle.uart_lane.specs.Counts.{KeepsCount, bytes_out}
 use Rattle.uart_lane.specs.Cycle.{unit_cycle}
 use Rattle.uart_lane.specs.State.{State as Uart}
 use Rattle.uart_lane.proofs.Counts.{keeps_count}
@@ -25,7 +27,9 @@ use Rattle.chip_net.specs.Chip.{State, after, arriving, delay_of, start, tick}
 use Rattle.chip_net.specs.Credits.{CreditsHold, HasSixteen, LosesNone, UartLosesNone, count_on}
 use Rattle.chip_net.specs.Order.{AreOrderedBefore}
 use Rattle.chip_net.proofs.Events.{EndBefore, ToldAt, are_past, gpio_tells, later_unit, next_cycle, pwm_tells, told_next, uart_tells}
+use Rattle.chip_net.specs.Sent.{SendsInOrder, bytes_down, resets_down, sent_down, told_by}
 use Rattle.chip_net.proofs.Runs.{cycle_after}
+use Rattle.chip_net.proofs.Sent.{Keeps, keeps, keeps_start, told_more, told_other, told_own}
 use Rattle.chip_net.proofs.Answers.{answers_keep, answers_start, gpio_answers, pwm_answers}
 use Rattle.chip_net.proofs.Credits.{CountsEntries, cycle_keeps, empty_some, moved_some, start_has}
 
@@ -202,3 +206,66 @@ credits_of_setup s image script n = credits_hold (values_of s) image script n (r
 
 pub none_lost_of_setup : (s : Setup) (image : List ℕ) (script : Script) (n : ℕ) → LosesNone (after (start (values_of s) image script) n)
 none_lost_of_setup s image script n = none_lost (after (start (values_of s) image script) n) (credits_of_setup s image script n)
+
+-- the events of the four units in a cycle, for each UART
+
+told_in_cycle : (unit : ℕ) (events a b d e : List Event)
+    → told_by unit (events ++ a ++ b ++ d ++ e) ≡ told_by unit events ++ told_by unit a ++ told_by unit b ++ told_by unit d ++ told_by unit e
+told_in_cycle unit events a b d e =
+    told_more unit (events ++ a ++ b ++ d) e ∙ ap (λ first. first ++ told_by unit e) (told_more unit (events ++ a ++ b) d)
+    ∙ ap (λ first. first ++ told_by unit d ++ told_by unit e) (told_more unit (events ++ a) b)
+    ∙ ap (λ first. first ++ told_by unit b ++ told_by unit d ++ told_by unit e) (told_more unit events a)
+
+told_by_uart0 : (c : State) → NumbersStay c
+    → told_by 1 (tick c).events ≡ told_by 1 c.events ++ bytes_out (unit_cycle c.uart0 c.cycle (first_of c.down_uart0)).event
+unfolding tick
+told_by_uart0 c h =
+    let own = told_own 1 c.cycle (unit_cycle c.uart0 c.cycle (first_of c.down_uart0)).event (uart_event c.uart0 c.cycle 1 (first_of c.down_uart0) h.uart0) in
+    let uart1 = told_other 1 2 c.cycle (unit_cycle c.uart1 c.cycle (first_of c.down_uart1)).event (uart_event c.uart1 c.cycle 2 (first_of c.down_uart1) h.uart1) refl in
+    let gpio = told_other 1 4 c.cycle (gpio_cycle c.gpio c.cycle (first_of c.down_gpio)).event (gpio_tells c.gpio c.cycle (first_of c.down_gpio)) refl in
+    let pwm = told_other 1 5 c.cycle (pwm_cycle c.pwm c.cycle (first_of c.down_pwm)).event (pwm_tells c.pwm c.cycle (first_of c.down_pwm)) refl in
+    told_in_cycle 1 c.events _ _ _ _ ∙ rw (own, uart1, gpio, pwm, append-nil, append-nil, append-nil) refl
+
+told_by_uart1 : (c : State) → NumbersStay c
+    → told_by 2 (tick c).events ≡ told_by 2 c.events ++ bytes_out (unit_cycle c.uart1 c.cycle (first_of c.down_uart1)).event
+unfolding tick
+told_by_uart1 c h =
+    let own = told_own 2 c.cycle (unit_cycle c.uart1 c.cycle (first_of c.down_uart1)).event (uart_event c.uart1 c.cycle 2 (first_of c.down_uart1) h.uart1) in
+    let uart0 = told_other 2 1 c.cycle (unit_cycle c.uart0 c.cycle (first_of c.down_uart0)).event (uart_event c.uart0 c.cycle 1 (first_of c.down_uart0) h.uart0) refl in
+    let gpio = told_other 2 4 c.cycle (gpio_cycle c.gpio c.cycle (first_of c.down_gpio)).event (gpio_tells c.gpio c.cycle (first_of c.down_gpio)) refl in
+    let pwm = told_other 2 5 c.cycle (pwm_cycle c.pwm c.cycle (first_of c.down_pwm)).event (pwm_tells c.pwm c.cycle (first_of c.down_pwm)) refl in
+    told_in_cycle 2 c.events _ _ _ _ ∙ rw (own, uart0, gpio, pwm, append-nil, append-nil, append-nil) refl
+
+-- what holds of both UARTs' bytes after n cycles
+record BytesKept (c : State) (n : ℕ) : Type 0 where
+  uart0 : Keeps (bytes_down c 0 n) (resets_down c 0 n) (told_by 1 (after c n).events) (after c n).uart0.fifo (after c n).down_uart0
+  uart1 : Keeps (bytes_down c 1 n) (resets_down c 1 n) (told_by 2 (after c n).events) (after c n).uart1.fifo (after c n).down_uart1
+
+kept_next : (c : State) (n : ℕ) → LinesHavePlaces (after c n) → CreditsHold (after c n) → NumbersStay (after c n) → BytesKept c n → BytesKept c (suc n)
+unfolding after tick bytes_down resets_down
+kept_next c n places credits numbers h =
+    let s : State = after c n in
+    let loses : LosesNone s = none_lost s credits in
+    record {
+      uart0 = subst (λ told. Keeps (bytes_down c 0 (suc n)) (resets_down c 0 (suc n)) told (tick s).uart0.fifo (tick s).down_uart0) (sym (told_by_uart0 s numbers))
+          (keeps _ _ _ _ _ _ s.down_uart0 (sent_down s 0) places.uart0.down loses.uart0 h.uart0);
+      uart1 = subst (λ told. Keeps (bytes_down c 1 (suc n)) (resets_down c 1 (suc n)) told (tick s).uart1.fifo (tick s).down_uart1) (sym (told_by_uart1 s numbers))
+          (keeps _ _ _ _ _ _ s.down_uart1 (sent_down s 1) places.uart1.down loses.uart1 h.uart1);
+    }
+
+kept_after : (c : State) (n : ℕ) → LinesHavePlaces c → CreditsHold c → NumbersStay c → BytesKept c 0 → BytesKept c n
+kept_after c zero l h m k = k
+kept_after c (suc n) l h m k = kept_next c n (places_after c n l) (credits_after c n l h) (numbers_after c n m) (kept_after c n l h m k)
+
+start_kept : (v : Values) (image : List ℕ) (script : Script) → BytesKept (start v image script) 0
+unfolding start after bytes_down resets_down
+start_kept v image script = record { uart0 = keeps_start (delay_of v 0); uart1 = keeps_start (delay_of v 1) }
+
+-- as long as a chip runs, each UART sends what it was given, in order
+pub sent_of_setup : (s : Setup) (image : List ℕ) (script : Script) (n : ℕ) → SendsInOrder (start (values_of s) image script) n
+sent_of_setup s image script n =
+    let v : Values = values_of s in
+    let kept : BytesKept (start v image script) n
+    = kept_after (start v image script) n (start_places v image script (record { lanes = s.lanes; each = s.delays })) (start_credits v image script)
+    (start_numbers v image script) (start_kept v image script) in
+    record { uart0 = kept.uart0.bytes; uart1 = kept.uart1.bytes }

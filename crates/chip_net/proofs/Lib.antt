@@ -4,3 +4,4 @@ pub mod Delays
 pub mod Events
 pub mod Holds
 pub mod Runs
+pub mod Sent

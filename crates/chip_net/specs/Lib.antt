@@ -1,3 +1,4 @@
 pub mod Chip
 pub mod Credits
 pub mod Order
+pub mod Sent

@@ -11,6 +11,7 @@ ghost use Rattle.chip_net.specs.Chip.{after, arriving, image_for, is_image, star
 ghost use Rattle.chip_net.specs.Chip.{State};
 ghost use Rattle.chip_net.specs.Credits.{CreditsHold, LosesNone};
 ghost use Rattle.chip_net.specs.Order.{AreOrderedBefore};
+ghost use Rattle.chip_net.specs.Sent.{SendsInOrder};
 
 use crate::links::Links;
 use board_units::{Gpio, Pwm};
@@ -115,7 +116,8 @@ impl Chip {
     /// The chip at power-on, with the bytes of a file in IMEM from address 0 on. Its lanes run together, whatever their groups.
     ///
     /// However long it runs, the sixteen credits of an open front are in the front, on its lines and in its unit; so no unit
-    /// loses a byte but by a Reset. And the events stand by cycle and then by unit.
+    /// loses a byte but by a Reset, and what each UART sends is what it was given, in order. And the events stand by cycle and then
+    /// by unit.
     pub fn new(
         alloc: Global,
         setup: &Setup,
@@ -130,6 +132,7 @@ impl Chip {
         ensures now { IfOk result (λ chip. chip.cycle ≡ 0) }
         ensures credits { (n : ℕ) → CreditsHold (after (start (values_of setup.now) image.items script) n) }
         ensures none_lost { (n : ℕ) → LosesNone (after (start (values_of setup.now) image.items script) n) }
+        ensures sent { (n : ℕ) → SendsInOrder (start (values_of setup.now) image.items script) n }
         ensures order { (n : ℕ) → AreOrderedBefore n (after (start (values_of setup.now) image.items script) n).events }
     {
         Chip::built(alloc, setup, boot, image, script)

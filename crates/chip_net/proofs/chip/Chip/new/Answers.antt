@@ -1,4 +1,4 @@
-use Rattle.chip_net.proofs.Holds.{credits_of_setup, events_ordered, none_lost_of_setup}
+use Rattle.chip_net.proofs.Holds.{credits_of_setup, events_ordered, none_lost_of_setup, sent_of_setup}
 use Rattle.chip_base.specs.Settings.{values_of}
 use Rattle.chip_net.proofs.chip.Chip.new.Goals as goal
 
@@ -10,3 +10,6 @@ returns-clause-order c = events_ordered (values_of c.args.setup.now) c.args.imag
 
 pub returns-clause-none_lost : goal.returns-clause-none_lost
 returns-clause-none_lost c = none_lost_of_setup c.args.setup.now c.args.image.items c.args.script
+
+pub returns-clause-sent : goal.returns-clause-sent
+returns-clause-sent c = sent_of_setup c.args.setup.now c.args.image.items c.args.script

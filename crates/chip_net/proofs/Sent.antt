@@ -1,0 +1,78 @@
+-- Bytes on their way to a UART, in it and sent, in their order.
+use Rattle.std.proofs.Common.{◌≡◌, ◌≤◌, ℕ, zero, suc, ◌+◌, true, false, eqb, List, [], ◌∷◌, ◌++◌, length, Option, None, Some, refl, ap, sym, ◌∙◌, arith, append_assoc, append-nil}
+use Rattle.std.specs.Prelude.{option_to_list, if◌then◌else◌}
+use Rattle.std.proofs.lemmas.Bool.Decides.{nat_tests}
+use Rattle.chip_base.specs.Messages.{reset_in}
+use Rattle.chip_base.specs.declared.event.Event.{Event}
+use Rattle.chip_base.specs.declared.message.Down.{Down}
+use Rattle.delay_line.specs.Queue.{empty_line}
+use Rattle.soc_words.specs.Line.{first_of, moved}
+use Rattle.uart_lane.specs.Counts.{bytes_in, bytes_out}
+use Rattle.chip_net.specs.Credits.{count_on}
+use Rattle.chip_net.specs.Sent.{bytes_on, told_by}
+use Rattle.chip_net.proofs.Events.{ToldAt}
+
+-- without a Reset all bytes that were sent down are told, in the unit or on the line, and no more Resets are on the line than were sent
+pub record Keeps (sent : List ℕ) (resets : ℕ) (told fifo : List ℕ) (line : List (Option Down)) : Type 0 where
+  pub bytes : resets ≡ 0 → sent ≡ told ++ fifo ++ bytes_on line
+  pub few : count_on reset_in line ≤ resets
+
+bytes_more : (line : List (Option Down)) (d : Option Down) → bytes_on (line ++ d ∷ []) ≡ bytes_on line ++ bytes_in d
+bytes_more [] d = append-nil (bytes_in d)
+bytes_more (m ∷ rest) d = ap (λ later. bytes_in m ++ later) (bytes_more rest d) ∙ sym (append_assoc (bytes_in m) (bytes_on rest) (bytes_in d))
+
+resets_more : (line : List (Option Down)) (d : Option Down) → count_on reset_in (line ++ d ∷ []) ≡ count_on reset_in line + reset_in d
+resets_more [] d = omega arith
+resets_more (m ∷ rest) d = omega (arith, resets_more rest d)
+
+-- the bytes of a cycle change places and keep their order
+in_order : (sent told fifo here later more out left : List ℕ) → sent ≡ told ++ fifo ++ (here ++ later) → fifo ++ here ≡ out ++ left
+    → sent ++ more ≡ told ++ out ++ left ++ (later ++ more)
+in_order sent told fifo here later more out left all step =
+    ap (λ bytes. bytes ++ more) all ∙ append_assoc (told ++ fifo) (here ++ later) more ∙ append_assoc told fifo ((here ++ later) ++ more)
+    ∙ ap (λ rest. told ++ (fifo ++ rest)) (append_assoc here later more) ∙ ap (λ rest. told ++ rest) (sym (append_assoc fifo here (later ++ more)))
+    ∙ ap (λ first. told ++ (first ++ (later ++ more))) step ∙ ap (λ rest. told ++ rest) (append_assoc out left (later ++ more))
+    ∙ sym (append_assoc told out (left ++ (later ++ more))) ∙ sym (append_assoc (told ++ out) left (later ++ more))
+
+-- one cycle: the first place arrives, the unit tells and keeps, and a message is sent down
+pub keeps : (sent told fifo left out : List ℕ) (resets : ℕ) (line : List (Option Down)) (d : Option Down) → 1 ≤ length line
+    → (reset_in (first_of line) ≡ 0 → fifo ++ bytes_in (first_of line) ≡ out ++ left) → Keeps sent resets told fifo line
+    → Keeps (sent ++ bytes_in d) (resets + reset_in d) (told ++ out) left (moved line d)
+keeps sent told fifo left out resets [] d l step k = absurd (omega (arith, l))
+keeps sent told fifo left out resets (m ∷ rest) d l step k = record {
+  bytes = λ none.
+      let few : reset_in m + count_on reset_in rest ≤ resets = k.few in
+      let clear : reset_in m ≡ 0 = omega (arith, few, none) in
+      in_order sent told fifo (bytes_in m) (bytes_on rest) (bytes_in d) out left (k.bytes (omega (arith, none))) (step clear)
+      ∙ ap (λ later. told ++ out ++ left ++ later) (sym (bytes_more rest d));
+  few = let few : reset_in m + count_on reset_in rest ≤ resets = k.few in omega (arith, few, resets_more rest d);
+}
+
+-- an empty line has no byte and no Reset
+bytes_empty : (delay : ℕ) → bytes_on (empty_line delay) ≡ []
+unfolding empty_line
+bytes_empty zero = refl
+bytes_empty (suc n) = bytes_empty n
+
+resets_empty : (delay : ℕ) → count_on reset_in (empty_line delay) ≡ 0
+unfolding empty_line
+resets_empty zero = refl
+resets_empty (suc n) = omega (arith, resets_empty n)
+
+pub keeps_start : (delay : ℕ) → Keeps [] 0 [] [] (empty_line delay)
+keeps_start delay = record { bytes = λ none. sym (bytes_empty delay); few = omega (arith, resets_empty delay) }
+
+-- what the events of a cycle add for a unit
+pub told_more : (unit : ℕ) (a b : List Event) → told_by unit (a ++ b) ≡ told_by unit a ++ told_by unit b
+told_more unit [] b = refl
+told_more unit (e ∷ rest) b =
+    ap (λ later. (if eqb e.unit unit then e.value ∷ [] else []) ++ later) (told_more unit rest b)
+    ∙ sym (append_assoc (if eqb e.unit unit then e.value ∷ [] else []) (told_by unit rest) (told_by unit b))
+
+pub told_own : (unit now : ℕ) (event : Option Event) → ToldAt unit now event → told_by unit (option_to_list event) ≡ bytes_out event
+told_own unit now None t = refl
+told_own unit now (Some e) t = let same : eqb e.unit unit ≡ true = grind (arith, nat_tests) in rw same refl
+
+pub told_other : (unit other now : ℕ) (event : Option Event) → ToldAt other now event → eqb other unit ≡ false → told_by unit (option_to_list event) ≡ []
+told_other unit other now None t apart = refl
+told_other unit other now (Some e) t apart = let differ : eqb e.unit unit ≡ false = ap (λ u. eqb u unit) t.1 ∙ apart in rw differ refl
