@@ -51,10 +51,11 @@ all_seen files job c i s ec ei es =
 
 -- the step of the chip file stops the run
 pub stop_settings : (told : Bool) (job : Job) (files : List ℕ → Option (List ℕ)) (before now : ℕ) (r : Refusal)
-    → Gives told 65536 (file_named files job.chip) (settings_named job.chip) before now (Err r) → RunDecides told job files before now (Err r)
+    → Gives told input.Chip job.chip (file_named files job.chip) (settings_named job.chip) before now (Err r) → RunDecides told job files before now (Err r)
 stop_settings told job files before now (Unread n) g = record {
   input = input.Chip;
   name = n.now;
+  named = g.2;
   seen = contents_of job files;
   is_files = λ t. refl;
   first = by_settings job (three None (files job.image) (file_named files job.script)) _ g.0;
@@ -67,6 +68,7 @@ stop_settings told job files before now (Unread n) g = record {
 stop_settings told job files before now (Long n) g = record {
   input = input.Chip;
   name = n.now;
+  named = g.2;
   seen = contents_of job files;
   is_files = λ t. refl;
   first = by_settings job (three None (files job.image) (file_named files job.script)) _ g.0;
@@ -88,11 +90,12 @@ stop_settings told job files before now Memory g = tt
 
 -- the step of the image stops it
 pub stop_image : (told : Bool) (job : Job) (files : List ℕ → Option (List ℕ)) (before between now : ℕ) (v : Values) (r : Refusal)
-    → Gives told 65536 (file_named files job.chip) (settings_named job.chip) before between (Ok v)
-    → Gives told 2097152 (files job.image) (image_named v.imem job.image) between now (Err r) → RunDecides told job files before now (Err r)
+    → Gives told input.Chip job.chip (file_named files job.chip) (settings_named job.chip) before between (Ok v)
+    → Gives told input.Image (Some job.image) (files job.image) (image_named v.imem job.image) between now (Err r) → RunDecides told job files before now (Err r)
 stop_image told job files before between now v (Unread n) s g = record {
   input = input.Image;
   name = n.now;
+  named = g.2;
   seen = three s.1.0 (files job.image) (file_named files job.script);
   is_files = λ t. ap (λ c. three c (files job.image) (file_named files job.script)) (s.1.1 t);
   first = by_image job (three s.1.0 None (file_named files job.script)) v _ s.1.2 g.0;
@@ -105,6 +108,7 @@ stop_image told job files before between now v (Unread n) s g = record {
 stop_image told job files before between now v (Long n) s g = record {
   input = input.Image;
   name = n.now;
+  named = g.2;
   seen = three s.1.0 (files job.image) (file_named files job.script);
   is_files = λ t. ap (λ c. three c (files job.image) (file_named files job.script)) (s.1.1 t);
   first = by_image job (three s.1.0 None (file_named files job.script)) v _ s.1.2 g.0;
@@ -126,12 +130,13 @@ stop_image told job files before between now v Memory s g = tt
 
 -- the step of the script stops it
 pub stop_script : (told : Bool) (job : Job) (files : List ℕ → Option (List ℕ)) (before first between now : ℕ) (v : Values) (image : List ℕ) (r : Refusal)
-    → Gives told 65536 (file_named files job.chip) (settings_named job.chip) before first (Ok v)
-    → Gives told 2097152 (files job.image) (image_named v.imem job.image) first between (Ok image)
-    → Gives told 1048576 (file_named files job.script) (script_named job.script) between now (Err r) → RunDecides told job files before now (Err r)
+    → Gives told input.Chip job.chip (file_named files job.chip) (settings_named job.chip) before first (Ok v)
+    → Gives told input.Image (Some job.image) (files job.image) (image_named v.imem job.image) first between (Ok image)
+    → Gives told input.Script job.script (file_named files job.script) (script_named job.script) between now (Err r) → RunDecides told job files before now (Err r)
 stop_script told job files before first between now v image (Unread n) s i g = record {
   input = input.Script;
   name = n.now;
+  named = g.2;
   seen = three s.1.0 i.1.0 (file_named files job.script);
   is_files = λ t. ap (λ c. three c i.1.0 (file_named files job.script)) (s.1.1 t) ∙ ap (λ b. three (file_named files job.chip) b (file_named files job.script)) (i.1.1 t);
   first = by_script job (three s.1.0 i.1.0 None) v image _ s.1.2 i.1.2 g.0;
@@ -145,6 +150,7 @@ stop_script told job files before first between now v image (Unread n) s i g = r
 stop_script told job files before first between now v image (Long n) s i g = record {
   input = input.Script;
   name = n.now;
+  named = g.2;
   seen = three s.1.0 i.1.0 (file_named files job.script);
   is_files = λ t. ap (λ c. three c i.1.0 (file_named files job.script)) (s.1.1 t) ∙ ap (λ b. three (file_named files job.chip) b (file_named files job.script)) (i.1.1 t);
   first = by_script job (three s.1.0 i.1.0 None) v image _ s.1.2 i.1.2 g.0;
@@ -167,9 +173,9 @@ stop_script told job files before first between now v image Memory s i g = tt
 
 -- nothing stops it
 pub runs_through : (told : Bool) (job : Job) (files : List ℕ → Option (List ℕ)) (before first between now : ℕ) (v : Values) (image : List ℕ) (script : Script)
-    → Gives told 65536 (file_named files job.chip) (settings_named job.chip) before first (Ok v)
-    → Gives told 2097152 (files job.image) (image_named v.imem job.image) first between (Ok image)
-    → Gives told 1048576 (file_named files job.script) (script_named job.script) between now (Ok script)
+    → Gives told input.Chip job.chip (file_named files job.chip) (settings_named job.chip) before first (Ok v)
+    → Gives told input.Image (Some job.image) (files job.image) (image_named v.imem job.image) first between (Ok image)
+    → Gives told input.Script job.script (file_named files job.script) (script_named job.script) between now (Ok script)
     → RunDecides told job files before now (Ok (after (start v image script) job.cycles))
 runs_through told job files before first between now v image script s i g = (
   g.0 ∙ (i.0 ∙ s.0),
@@ -187,19 +193,19 @@ named_same f g (Some name) same = same name
 
 -- what was read of the image before nothing changed
 pub same_shelf_image : (told1 told : Bool) (files1 files : List ℕ → Option (List ℕ)) (job : Job) (before now room : ℕ) (r : Result (List ℕ) Refusal)
-    → told1 ≡ told → ((q : List ℕ) → files1 q ≡ files q) → Gives told1 2097152 (files1 job.image) (image_named room job.image) before now r
-    → Gives told 2097152 (files job.image) (image_named room job.image) before now r
+    → told1 ≡ told → ((q : List ℕ) → files1 q ≡ files q) → Gives told1 input.Image (Some job.image) (files1 job.image) (image_named room job.image) before now r
+    → Gives told input.Image (Some job.image) (files job.image) (image_named room job.image) before now r
 same_shelf_image told1 told files1 files job before now room r t f g =
-    subst (λ file. Gives told 2097152 file (image_named room job.image) before now r) (f job.image)
-    (subst (λ b. Gives b 2097152 (files1 job.image) (image_named room job.image) before now r) t g)
+    subst (λ file. Gives told input.Image (Some job.image) file (image_named room job.image) before now r) (f job.image)
+    (subst (λ b. Gives b input.Image (Some job.image) (files1 job.image) (image_named room job.image) before now r) t g)
 
 -- and of the script
 pub same_shelf_script : (told1 told : Bool) (files1 files : List ℕ → Option (List ℕ)) (job : Job) (before now : ℕ) (r : Result Script Refusal)
-    → told1 ≡ told → ((q : List ℕ) → files1 q ≡ files q) → Gives told1 1048576 (file_named files1 job.script) (script_named job.script) before now r
-    → Gives told 1048576 (file_named files job.script) (script_named job.script) before now r
+    → told1 ≡ told → ((q : List ℕ) → files1 q ≡ files q) → Gives told1 input.Script job.script (file_named files1 job.script) (script_named job.script) before now r
+    → Gives told input.Script job.script (file_named files job.script) (script_named job.script) before now r
 same_shelf_script told1 told files1 files job before now r t f g =
-    subst (λ file. Gives told 1048576 file (script_named job.script) before now r) (named_same files1 files job.script f)
-    (subst (λ b. Gives b 1048576 (file_named files1 job.script) (script_named job.script) before now r) t g)
+    subst (λ file. Gives told input.Script job.script file (script_named job.script) before now r) (named_same files1 files job.script f)
+    (subst (λ b. Gives b input.Script job.script (file_named files1 job.script) (script_named job.script) before now r) t g)
 
 -- a result that is this refusal
 pub is_err : {A : Type 0} (r : Result A Refusal) (e : Refusal) → IsErrAnd r (λ d. d ≡ e) → r ≡ Err e

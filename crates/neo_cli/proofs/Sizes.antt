@@ -14,7 +14,9 @@ use Rattle.script_text.specs.declared.chip.KeyFault.TheVariants.{Key, Range}
 use Rattle.script_text.specs.declared.script_fault.ScriptFault.{ScriptFault}
 use Rattle.soc_words.specs.Causes.{Rose, appended, AppendsBeginning}
 use Rattle.neo_cli.specs.Answer.{Answer, key_answer, long_answer, size_answer, toml_answer}
-use Rattle.neo_cli.specs.Inputs.{Contents, file_means, followed, image_in, image_named, run_answer, script_in, script_named, script_read, settings_in, settings_named, settings_of}
+use Rattle.neo_cli.specs.Inputs.{Contents, file_means, followed, image_in, image_named, limit_of, run_answer, script_in, script_named, script_read, settings_in, settings_named, settings_of}
+use Rattle.neo_cli.specs.declared.input.Input.{Input}
+use Rattle.neo_cli.specs.declared.input.Input.TheVariants as input
 use Rattle.neo_cli.specs.Told.{IsRun, IsTooLarge, Oversize}
 use Rattle.neo_cli.proofs.Order.{by_image, by_run, by_script, by_settings}
 use Rattle.neo_cli.proofs.Told.{answered_from}
@@ -56,18 +58,18 @@ read_status : {A : Type 0} (t : Bool) (name bytes : List ℕ) (judged : List ℕ
 read_status true name bytes judged bad a h e = inl (err_status e)
 read_status false name bytes judged bad a h e = inr (h a e)
 
-file_status : {A : Type 0} (limit : ℕ) (name : List ℕ) (judged : List ℕ → Result A Answer) (bad : ℕ) (file : Option (List ℕ)) (a : Answer)
-    → ((bytes : List ℕ) (b : Answer) → judged bytes ≡ Err b → b.status ≡ bad) → file_means limit name judged file ≡ Err a → (a.status ≡ 3) ⊎ (a.status ≡ bad)
-file_status limit name judged bad None a h e = inl (err_status e)
-file_status limit name judged bad (Some bytes) a h e = read_status (nat_lt limit (length bytes)) name bytes judged bad a (h bytes) e
+file_status : {A : Type 0} (which : Input) (name : List ℕ) (judged : List ℕ → Result A Answer) (bad : ℕ) (file : Option (List ℕ)) (a : Answer)
+    → ((bytes : List ℕ) (b : Answer) → judged bytes ≡ Err b → b.status ≡ bad) → file_means which name judged file ≡ Err a → (a.status ≡ 3) ⊎ (a.status ≡ bad)
+file_status which name judged bad None a h e = inl (err_status e)
+file_status which name judged bad (Some bytes) a h e = read_status (nat_lt (limit_of which) (length bytes)) name bytes judged bad a (h bytes) e
 
 settings_status : (name file : Option (List ℕ)) (a : Answer) → settings_named name file ≡ Err a → (a.status ≡ 3) ⊎ (a.status ≡ 6)
 settings_status None file a e = absurd (cc)
-settings_status (Some name) file a e = file_status 65536 name settings_in 6 file a settings_in_status e
+settings_status (Some name) file a e = file_status input.Chip name settings_in 6 file a settings_in_status e
 
 script_status : (name file : Option (List ℕ)) (a : Answer) → script_named name file ≡ Err a → (a.status ≡ 3) ⊎ (a.status ≡ 5)
 script_status None file a e = absurd (cc)
-script_status (Some name) file a e = file_status 1048576 name script_in 5 file a script_in_status e
+script_status (Some name) file a e = file_status input.Script name script_in 5 file a script_in_status e
 
 -- an image is refused with 3 or for its size
 size_by : (t : Bool) (room : ℕ) (bytes : List ℕ) (a : Answer) → nat_lt room (length bytes) ≡ t → cond t (Err (size_answer (length bytes))) (Ok bytes) ≡ Err a
@@ -83,7 +85,7 @@ image_by false room name bytes a e = inr (size_by (nat_lt room (length bytes)) r
 image_status : (room : ℕ) (name : List ℕ) (file : Option (List ℕ)) (a : Answer) → image_named room name file ≡ Err a
     → (a.status ≡ 3) ⊎ ((bytes : List ℕ) × (file ≡ Some bytes) × (room < length bytes) × (a ≡ size_answer (length bytes)))
 image_status room name None a e = inl (err_status e)
-image_status room name (Some bytes) a e = elim (image_by (nat_lt 2097152 (length bytes)) room name bytes a e) [
+image_status room name (Some bytes) a e = elim (image_by (nat_lt (limit_of input.Image) (length bytes)) room name bytes a e) [
   | inl three ↦ inl three
   | inr size ↦ inr (bytes, refl, size.0, size.1)
 ]

@@ -9,7 +9,7 @@ use Rattle.neo_cli.specs.declared.refusal.Fault.TheVariants.{Toml, Key, Range, T
 use Rattle.neo_cli.specs.declared.refusal.Refusal.{Refusal}
 use Rattle.neo_cli.specs.declared.refusal.Refusal.TheVariants.{Unread, Long, Faulty, Memory}
 use Rattle.neo_cli.specs.Answer.{Answer, usage_answer, report_answer}
-use Rattle.neo_cli.specs.Inputs.{answer, answer_over, contents_for}
+use Rattle.neo_cli.specs.Inputs.{Contents, answer, answer_over, contents_for}
 use Rattle.neo_cli.specs.Outcome.{Answers, Decides, RunDecides, Tells, fault_answer, told_answer}
 use Rattle.neo_cli.specs.Told.{Completes, IsAnswered, IsCutShort, IsMissed, IsRefused, IsRun, IsStatus, IsWantOfMemory}
 
@@ -217,14 +217,15 @@ refused_told told job files rb rn o old new before now status d t three = by_cau
     by_cause wanted (inr (inr e)) t = absurd (three_not_nine (sym (nine_told _ _ _ _ _ (subst (λ w. Tells w old new before now status) e t)) ∙ three))
 
 pub want_of_memory_told : (told : Bool) (job : Option Job) (files : List ℕ → Option (List ℕ)) (rb rn : ℕ) (o : Outcome) (old new : Option (List ℕ)) (before now status : ℕ)
-    → Decides told job files rb rn o → Tells (told_answer o) old new before now status → IsTrue told → IsWantOfMemory told job files (answer job files) rb rn old new status
-want_of_memory_told told job files rb rn o old new before now status d t told_is nine = by_cause (told_answer o) (cause told job files rb rn o d) t
+    → Decides told job files rb rn o → Tells (told_answer o) old new before now status → IsWantOfMemory told job files rb rn old new status
+want_of_memory_told told job files rb rn o old new before now status d t nine = by_cause (told_answer o) (cause told job files rb rn o d) t
   where
     by_cause : (wanted : Answer) → Cause told job files rb rn wanted → Tells wanted old new before now status
-        → AppendsBeginning old new (answer job files).text ⊎ ((text : List ℕ) × IsMissed told job files rb rn text × AppendsBeginning old new text)
-    by_cause wanted (inl k) t = inl (subst (λ w. AppendsBeginning old new w.text) (sym (is_answer told job files wanted k.1 told_is)) t.beginning)
+        → ((seen : Contents) × (IsTrue told → seen ≡ contents_for job files) × AppendsBeginning old new (answer_over job seen).text)
+        ⊎ ((text : List ℕ) × IsMissed told job files rb rn text × AppendsBeginning old new text)
+    by_cause wanted (inl k) t = inl (k.1.seen, k.1.is_files, subst (λ w. AppendsBeginning old new w.text) (sym k.1.gives) t.beginning)
     by_cause wanted (inr (inl m)) t = inr (m.0, m.2, subst (λ w. AppendsBeginning old new w.text) m.1 t.beginning)
-    by_cause wanted (inr (inr e)) t = inl (beginning_of_nothing old new _ (subst (λ w. AppendsBeginning old new w.text) e t.beginning))
+    by_cause wanted (inr (inr e)) t = inl (contents_for job files, (λ told_is. refl), beginning_of_nothing old new _ (subst (λ w. AppendsBeginning old new w.text) e t.beginning))
 
 pub read_told : (told : Bool) (job : Option Job) (files : List ℕ → Option (List ℕ)) (rb rn : ℕ) (o : Outcome) (old new : Option (List ℕ)) (before now status : ℕ)
     → Decides told job files rb rn o → Tells (told_answer o) old new before now status → status ≡ 3 → Rose rb rn ⊎ (IsTrue told × ((answer job files).status ≡ 3))

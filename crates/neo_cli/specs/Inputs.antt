@@ -34,8 +34,8 @@ bytes_read limit name None = Err (unread_answer name)
 bytes_read limit name (Some bytes) = if nat_lt limit (length bytes) then Err (long_answer name) else Ok bytes
 
 -- a file that is read and then judged
-abbrev pub file_means : {A : Type 0} → ℕ → List ℕ → (List ℕ → Result A Answer) → Option (List ℕ) → Result A Answer
-file_means limit name judged file = followed (bytes_read limit name file) judged
+abbrev pub file_means : {A : Type 0} → Input → List ℕ → (List ℕ → Result A Answer) → Option (List ℕ) → Result A Answer
+file_means which name judged file = followed (bytes_read (limit_of which) name file) judged
 
 abbrev pub settings_of : Option (Result Values Fault) → Result Values Answer
 settings_of None = Err toml_answer
@@ -61,15 +61,15 @@ script_in bytes = script_read (script_of bytes)
 -- the settings of the chip: the standard ones where no chip file is named
 abbrev pub settings_named : Option (List ℕ) → Option (List ℕ) → Result Values Answer
 settings_named None file = Ok standard
-settings_named (Some name) file = file_means 65536 name settings_in file
+settings_named (Some name) file = file_means input.Chip name settings_in file
 
 abbrev pub image_named : ℕ → List ℕ → Option (List ℕ) → Result (List ℕ) Answer
-image_named room name file = file_means 2097152 name (image_in room) file
+image_named room name file = file_means input.Image name (image_in room) file
 
 -- the script: the one that does nothing where none is named
 abbrev pub script_named : Option (List ℕ) → Option (List ℕ) → Result Script Answer
 script_named None file = Ok empty
-script_named (Some name) file = file_means 1048576 name script_in file
+script_named (Some name) file = file_means input.Script name script_in file
 
 -- the files of a job, as far as they are there
 pub record Contents : Type 0 where
@@ -81,6 +81,12 @@ abbrev pub file_at : Input → Contents → Option (List ℕ)
 file_at input.Chip c = c.chip
 file_at input.Image c = c.image
 file_at input.Script c = c.script
+
+-- the name of this file, where the job names one
+abbrev pub name_at : Input → Job → Option (List ℕ)
+name_at input.Chip job = job.chip
+name_at input.Image job = Some job.image
+name_at input.Script job = job.script
 
 -- the same files but this one, which isn't there
 abbrev pub lacking : Input → Contents → Contents

@@ -11,7 +11,7 @@ use Rattle.neo_cli.specs.declared.refusal.Refusal.{Refusal}
 use Rattle.neo_cli.specs.declared.refusal.Refusal.TheVariants.{Unread, Long, Faulty, Memory}
 use Rattle.neo_cli.specs.declared.input.Input.{Input}
 use Rattle.neo_cli.specs.Answer.{Answer, usage_answer, unread_text, long_text, unread_answer, long_answer, size_answer, line_answer, toml_answer, key_text, range_text, report_answer}
-use Rattle.neo_cli.specs.Inputs.{Contents, limit_of, file_at, lacking, run_answer, contents_of, contents_for, answer_over}
+use Rattle.neo_cli.specs.Inputs.{Contents, limit_of, name_at, file_at, lacking, run_answer, contents_of, contents_for, answer_over}
 
 -- the answer that a fault asks for
 abbrev pub fault_answer : Fault → Answer
@@ -70,14 +70,14 @@ Judges means (Err (Long n)) = ⊥
 abbrev pub Sees : {A : Type 0} → Bool → Option (List ℕ) → (Option (List ℕ) → Result A Answer) → Result A Answer → Type 0
 Sees told file means result = (seen : Option (List ℕ)) × (IsTrue told → seen ≡ file) × (means seen ≡ result)
 
--- what reading and judging a file gives, by what it means; a file that isn't read would be refused were it missing
-abbrev pub Gives : {A : Type 0} → Bool → ℕ → Option (List ℕ) → (Option (List ℕ) → Result A Answer) → ℕ → ℕ → Result A Refusal → Type 0
-Gives told limit file means before now (Ok a) = (now ≡ before) × Sees told file means (Ok a)
-Gives told limit file means before now (Err (Faulty fault)) = (now ≡ before) × Sees told file means (Err (fault_answer fault))
-Gives told limit file means before now (Err (Unread n)) = (means None ≡ Err (unread_answer n.now)) × IsUnread told file before now
-Gives told limit file means before now (Err (Long n)) = (means None ≡ Err (unread_answer n.now))
-    × ((IsTrue told × (means file ≡ Err (long_answer n.now)) × IsLong limit file) ⊎ ((told ≡ false) × Rose before now))
-Gives told limit file means before now (Err Memory) = Unit {0}
+-- what reading and judging a file gives, by what it means; a file that isn't read is named, and would be refused were it missing
+abbrev pub Gives : {A : Type 0} → Bool → Input → Option (List ℕ) → Option (List ℕ) → (Option (List ℕ) → Result A Answer) → ℕ → ℕ → Result A Refusal → Type 0
+Gives told input name file means before now (Ok a) = (now ≡ before) × Sees told file means (Ok a)
+Gives told input name file means before now (Err (Faulty fault)) = (now ≡ before) × Sees told file means (Err (fault_answer fault))
+Gives told input name file means before now (Err (Unread n)) = (means None ≡ Err (unread_answer n.now)) × IsUnread told file before now × (name ≡ Some n.now)
+Gives told input name file means before now (Err (Long n)) = (means None ≡ Err (unread_answer n.now))
+    × ((IsTrue told × (means file ≡ Err (long_answer n.now)) × IsLong (limit_of input) file) ⊎ ((told ≡ false) × Rose before now)) × (name ≡ Some n.now)
+Gives told input name file means before now (Err Memory) = Unit {0}
 
 -- what was seen of a job's files gives this answer; of a shelf that tells, it is the files
 pub record Answers (told : Bool) (job : Option Job) (files : List ℕ → Option (List ℕ)) (wanted : Answer) : Type 0 where
@@ -90,6 +90,7 @@ pub record Answers (told : Bool) (job : Option Job) (files : List ℕ → Option
 pub record Misses (told : Bool) (job : Job) (files : Contents) (before now : ℕ) (text : List ℕ) : Type 0 where
   pub input : Input
   pub name : List ℕ
+  pub named : name_at input job ≡ Some name
   pub seen : Contents
   pub is_files : IsTrue told → seen ≡ files
   pub first : run_answer job (lacking input seen) ≡ unread_answer name

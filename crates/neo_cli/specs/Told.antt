@@ -30,10 +30,11 @@ IsCutShort wanted old new status = status ≡ 7 → (wanted.status ≡ 0) × App
 abbrev pub IsMissed : Bool → Option Job → (List ℕ → Option (List ℕ)) → ℕ → ℕ → List ℕ → Type 0
 IsMissed told job files before now text = (j : Job) × (job ≡ Some j) × Misses told j (contents_of j files) before now text
 
--- 9 comes with a beginning of the answer's text, or of the line of a file that isn't read
-abbrev pub IsWantOfMemory : Bool → Option Job → (List ℕ → Option (List ℕ)) → Answer → ℕ → ℕ → Option (List ℕ) → Option (List ℕ) → ℕ → Type 0
-IsWantOfMemory told job files wanted read_before read_now old new status =
-    status ≡ 9 → AppendsBeginning old new wanted.text
+-- 9 comes with a beginning of the answer's text over what was seen of the files, or of the line of a file that isn't read; of a shelf
+-- that tells, what was seen is the files
+abbrev pub IsWantOfMemory : Bool → Option Job → (List ℕ → Option (List ℕ)) → ℕ → ℕ → Option (List ℕ) → Option (List ℕ) → ℕ → Type 0
+IsWantOfMemory told job files read_before read_now old new status =
+    status ≡ 9 → ((seen : Contents) × (IsTrue told → seen ≡ contents_for job files) × AppendsBeginning old new (answer_over job seen).text)
     ⊎ ((text : List ℕ) × IsMissed told job files read_before read_now text × AppendsBeginning old new text)
 
 -- 3 comes with a beginning of the line of a file that isn't read, and all of it where the sink didn't fail

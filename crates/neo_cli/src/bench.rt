@@ -46,10 +46,10 @@ pub fn bench<R: Threads + Sync, S: Shelf, O: Sink>(
         (O.written out.old) (O.written out.new) (O.faults out.old) (O.faults out.new) result }
     ensures cut_short { IsTrue (S.told shelf.old) → IsCutShort (answer (job_of (map string_bytes words.now.items)) (S.file shelf.old))
         (O.written out.old) (O.written out.new) result }
-    ensures want_of_memory { IsTrue (S.told shelf.old) → IsWantOfMemory (S.told shelf.old) (job_of (map string_bytes words.now.items)) (S.file shelf.old)
-        (answer (job_of (map string_bytes words.now.items)) (S.file shelf.old)) (S.read_faults shelf.old) (S.read_faults shelf.new) (O.written out.old) (O.written out.new) result }
 
     // over any shelf
+    ensures want_of_memory { IsWantOfMemory (S.told shelf.old) (job_of (map string_bytes words.now.items)) (S.file shelf.old)
+        (S.read_faults shelf.old) (S.read_faults shelf.new) (O.written out.old) (O.written out.new) result }
     ensures refused { IsRefused (S.told shelf.old) (job_of (map string_bytes words.now.items)) (S.file shelf.old) (S.read_faults shelf.old) (S.read_faults shelf.new)
         (O.written out.old) (O.written out.new) (O.faults out.old) (O.faults out.new) result }
     ensures ran { IsRun (S.told shelf.old) (job_of (map string_bytes words.now.items)) (S.file shelf.old) (S.read_faults shelf.old) (S.read_faults shelf.new)

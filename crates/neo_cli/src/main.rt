@@ -3,13 +3,13 @@
 
 mod bank;
 mod bench;
+mod files;
 mod input;
 mod judge;
 mod outcome;
 mod refusal;
 mod report;
 mod run;
-mod steps;
 mod tell;
 #[cfg(test)]
 mod tests;

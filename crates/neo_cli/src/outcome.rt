@@ -3,9 +3,9 @@ ghost use Rattle.std.specs.Prelude.{◌≡◌, ◌≤◌, ℕ, List, map, string
 ghost use Rattle.bench_words.specs.Jobs.{job_of, job_view};
 ghost use Rattle.neo_cli.specs.Outcome.{Decides, RunDecides};
 
+use crate::files::{read_image, read_script_file, read_settings};
 use crate::refusal::Refusal;
 use crate::run::Run;
-use crate::steps::{read_image, read_settings, read_steps};
 use bench_shelf::Shelf;
 use bench_words::{RunJob, read_job};
 use chip_base::NoMemory;
@@ -38,7 +38,7 @@ fn run_job<'a, R: Threads + Sync, S: Shelf>(
 {
     let setup = read_settings(alloc, job.chip, shelf)?;
     let image = read_image(alloc, setup.imem, job.image, shelf)?;
-    let script = read_steps(alloc, job.script, shelf)?;
+    let script = read_script_file(alloc, job.script, shelf)?;
     match Run::over(rt, alloc, &setup, image, script, &job.groups, job.cycles) {
         Ok(run) => Ok(run),
         Err(NoMemory) => Err(Refusal::Memory),

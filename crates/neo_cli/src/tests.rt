@@ -85,6 +85,116 @@ mem 00000010 23a220006f0000000000000000000000
 end
 ";
 
+/// The same with UART1: lui x1, 0xfff60 in place of the first word.
+const SEND_BY_UART1: [u32; 6] = [
+    0xfff6_00b7,
+    0x0010_0113,
+    0x0020_a023,
+    0x0410_0113,
+    0x0020_a223,
+    0x0000_006f,
+];
+
+const SENT_BY_UART1: &str = "cycles 63
+62 uart1 tx 41
+boot raw
+hart 0 run pc 00000014 retired 13
+x1 fff60000
+x2 00000041
+mem 00000000 b700f6ff1301100023a0200013011004
+mem 00000010 23a220006f0000000000000000000000
+end
+";
+
+/// Both UARTs are enabled, then each sends an A, UART0 in cycle 18 and UART1 in cycle 23: lui x1, 0xfff50; lui x2, 0xfff60;
+/// addi x3, x0, 1; sw x3, 0(x1); sw x3, 0(x2); addi x3, x0, 0x41; sw x3, 4(x1); sw x3, 4(x2); jal x0, 0
+const SEND_BY_BOTH: [u32; 9] = [
+    0xfff5_00b7,
+    0xfff6_0137,
+    0x0010_0193,
+    0x0030_a023,
+    0x0031_2023,
+    0x0410_0193,
+    0x0030_a223,
+    0x0031_2223,
+    0x0000_006f,
+];
+
+/// UART1's link is five cycles shorter, so both bytes are out in the same cycle.
+const SENT_BY_BOTH: &str = "cycles 70
+69 uart0 tx 41
+69 uart1 tx 41
+boot raw
+hart 0 ready pc 00000020 retired 15
+x1 fff50000
+x2 fff60000
+x3 00000041
+mem 00000000 b700f5ff3701f6ff9301100023a03000
+mem 00000010 232031009301100423a2300023223100
+mem 00000020 6f000000000000000000000000000000
+end
+";
+
+/// The DMA copies the first two words to 80000000, from cycle 24 on, one access a cycle. CTRL is loaded in cycle 28, and the copy is
+/// done: lui x1, 0xffed0; sw x0, 4(x1); lui x2, 0x80000; sw x2, 8(x1); addi x3, x0, 2; sw x3, 12(x1); addi x3, x0, 1; sw x3, 0(x1);
+/// lw x4, 0(x1); jal x0, -4
+const COPY_TWO: [u32; 10] = [
+    0xffed_00b7,
+    0x0000_a223,
+    0x8000_0137,
+    0x0020_a423,
+    0x0020_0193,
+    0x0030_a623,
+    0x0010_0193,
+    0x0030_a023,
+    0x0000_a203,
+    0xffdf_f06f,
+];
+
+const COPIED_TWO: &str = "cycles 30
+boot raw
+hart 0 run pc 00000024 retired 9
+x1 ffed0000
+x2 80000000
+x3 00000001
+x4 00000100
+mem 00000000 b700edff23a200003701008023a42000
+mem 00000010 9301200023a630009301100023a03000
+mem 00000020 03a200006ff0dfff0000000000000000
+mem 80000000 b700edff23a200000000000000000000
+end
+";
+
+/// The DMA is to copy to 40000000, where nothing is: its first store is refused. Then CTRL and FAULT are loaded, the latter by
+/// lw x5, 16(x1).
+const COPY_NOWHERE: [u32; 11] = [
+    0xffed_00b7,
+    0x0000_a223,
+    0x4000_0137,
+    0x0020_a423,
+    0x0020_0193,
+    0x0030_a623,
+    0x0010_0193,
+    0x0030_a023,
+    0x0000_a203,
+    0x0100_a283,
+    0xff9f_f06f,
+];
+
+const COPIED_NOTHING: &str = "cycles 40
+boot raw
+hart 0 run pc 00000020 retired 11
+x1 ffed0000
+x2 40000000
+x3 00000001
+x4 00000200
+x5 40000000
+mem 00000000 b700edff23a200003701004023a42000
+mem 00000010 9301200023a630009301100023a03000
+mem 00000020 03a2000083a200016ff09fff00000000
+end
+";
+
 /// The jump takes six cycles, and is begun in cycles 16, 22 and so on up to 4,996.
 const SEND_A_LONG: &str = "cycles 5000
 62 uart0 tx 41
@@ -312,6 +422,19 @@ fn reports_runs(rt: HostRuntime) -> Result<(), AllocError> {
         ("run prog.bin 63 --boot raw", &SEND_A, 0, SEND_A_SENT),
         ("run prog.bin 62 --boot raw", &SEND_A, 0, SEND_A_SENDING),
         ("run prog.bin 5000 --boot raw", &SEND_A, 0, SEND_A_LONG),
+        (
+            "run prog.bin 63 --boot raw",
+            &SEND_BY_UART1,
+            0,
+            SENT_BY_UART1,
+        ),
+        ("run prog.bin 30 --boot raw", &COPY_TWO, 0, COPIED_TWO),
+        (
+            "run prog.bin 40 --boot raw",
+            &COPY_NOWHERE,
+            0,
+            COPIED_NOTHING,
+        ),
         ("run prog.bin 20 --boot raw", &PARCELS, 0, PARCELS_RUN),
         ("run prog.bin 20 --boot raw", &VECTORED, 0, VECTORED_RUN),
         (
@@ -425,6 +548,7 @@ fn refuses_words(rt: HostRuntime) -> Result<(), AllocError> {
         "run prog.bin",
         "run prog.bin 10 --boot raw --groups hub,hub",
         "run prog.bin 10 --boot raw --chip",
+        "run prog.bin 10 --boot raw --part lop",
         "run prog.bin  --boot raw",
         "run prog.bin 1x --boot raw",
         "run prog.bin -1 --boot raw",
@@ -446,6 +570,20 @@ fn refuses_words(rt: HostRuntime) -> Result<(), AllocError> {
         );
     }
     Ok(())
+}
+
+#[test]
+fn refuses_no_words(rt: HostRuntime) {
+    let words = Vec::new(rt.alloc());
+    let mut shelf = MemShelf::new(
+        rt.alloc(),
+        Vec::new(rt.alloc()),
+        Vec::new(rt.alloc()),
+        Vec::new(rt.alloc()),
+    );
+    let mut out = MemSink::new(rt.alloc(), Vec::new(rt.alloc()));
+    let status = bench(&rt, rt.alloc(), &words, &mut shelf, &mut out);
+    assert!(&rt; status == 2 && out.bytes() == b"error usage\n".as_slice());
 }
 
 /// UART0 is enabled, then pins and received bytes are gathered: lui x1, 0xfff50; addi x2, x0, 1; sw x2, 0(x1); lui x3, 0xfffc0;
@@ -535,6 +673,65 @@ fn reads_chip_files_and_scripts(rt: HostRuntime) -> Result<(), AllocError> {
         };
         assert!(&rt; answers(&rt, rt.alloc(), &case, 0, text)?, "{words}");
     }
+    Ok(())
+}
+
+#[test]
+fn tells_events_of_one_cycle(rt: HostRuntime) -> Result<(), AllocError> {
+    let bytes = bytes_of(rt.alloc(), &SEND_BY_BOTH)?;
+    let case = Case {
+        words: "run prog.bin 70 --boot raw --chip chip.toml",
+        file: &bytes,
+        chip: b"[delay]\nuart1 = 27\n",
+        script: &[],
+        failing_reads: &[],
+        failing_puts: &[],
+    };
+    assert!(&rt; answers(&rt, rt.alloc(), &case, 0, SENT_BY_BOTH)?);
+    Ok(())
+}
+
+/// GPIO's PENDING is cleared in cycle 12, then PENDING and IN are loaded: lui x1, 0xfffc0; addi x2, x0, -1; four times addi x0, x0, 0;
+/// sw x2, 12(x1); lw x3, 12(x1); lw x4, 0(x1); jal x0, 0
+const CLEAR_PENDING: [u32; 10] = [
+    0xfffc_00b7,
+    0xfff0_0113,
+    0x0000_0013,
+    0x0000_0013,
+    0x0000_0013,
+    0x0000_0013,
+    0x0020_a623,
+    0x00c0_a183,
+    0x0000_a203,
+    0x0000_006f,
+];
+
+/// Pin 3's rise reaches the front in cycle 12 and is cleared, pin 5's comes a cycle later and stays.
+const CLEARED_PENDING: &str = "cycles 40
+boot raw
+hart 0 run pc 00000024 retired 12
+x1 fffc0000
+x2 ffffffff
+x3 00000020
+x4 00000028
+mem 00000000 b700fcff1301f0ff1300000013000000
+mem 00000010 130000001300000023a6200083a1c000
+mem 00000020 03a200006f0000000000000000000000
+end
+";
+
+#[test]
+fn clears_a_rise_of_its_cycle(rt: HostRuntime) -> Result<(), AllocError> {
+    let bytes = bytes_of(rt.alloc(), &CLEAR_PENDING)?;
+    let case = Case {
+        words: "run prog.bin 40 --boot raw --script up.txt",
+        file: &bytes,
+        chip: &[],
+        script: b"pin 4 3 1\npin 5 5 1\n",
+        failing_reads: &[],
+        failing_puts: &[],
+    };
+    assert!(&rt; answers(&rt, rt.alloc(), &case, 0, CLEARED_PENDING)?);
     Ok(())
 }
 
@@ -668,30 +865,40 @@ fn refuses_files_in_order(rt: HostRuntime) -> Result<(), AllocError> {
 
 #[test]
 fn limits_chip_files(rt: HostRuntime) -> Result<(), AllocError> {
-    let chip = zero_bytes(rt.alloc(), 65_537)?;
-    let case = Case {
-        words: "run other.bin 0 --boot raw --chip chip.toml --script up.txt",
-        file: &[],
-        chip: &chip,
-        script: b"jump",
-        failing_reads: &[],
-        failing_puts: &[],
-    };
-    assert!(&rt; answers(&rt, rt.alloc(), &case, 3, "error long chip.toml\n")?);
+    for (count, status, text) in [
+        (65_536, 6, "error chip toml\n"),
+        (65_537, 3, "error long chip.toml\n"),
+    ] {
+        let chip = zero_bytes(rt.alloc(), count)?;
+        let case = Case {
+            words: "run other.bin 0 --boot raw --chip chip.toml --script up.txt",
+            file: &[],
+            chip: &chip,
+            script: b"jump",
+            failing_reads: &[],
+            failing_puts: &[],
+        };
+        assert!(&rt; answers(&rt, rt.alloc(), &case, status, text)?, "{count}");
+    }
     Ok(())
 }
 
 #[test]
 fn limits_scripts(rt: HostRuntime) -> Result<(), AllocError> {
-    let script = zero_bytes(rt.alloc(), 1_048_577)?;
-    let case = Case {
-        words: "run prog.bin 0 --boot raw --script up.txt",
-        file: &[],
-        chip: &[],
-        script: &script,
-        failing_reads: &[],
-        failing_puts: &[],
-    };
-    assert!(&rt; answers(&rt, rt.alloc(), &case, 3, "error long up.txt\n")?);
+    for (count, status, text) in [
+        (1_048_576, 5, "error script line 1 word\n"),
+        (1_048_577, 3, "error long up.txt\n"),
+    ] {
+        let script = zero_bytes(rt.alloc(), count)?;
+        let case = Case {
+            words: "run prog.bin 0 --boot raw --script up.txt",
+            file: &[],
+            chip: &[],
+            script: &script,
+            failing_reads: &[],
+            failing_puts: &[],
+        };
+        assert!(&rt; answers(&rt, rt.alloc(), &case, status, text)?, "{count}");
+    }
     Ok(())
 }

@@ -1,5 +1,5 @@
 //! The files of a job, read and judged one by one.
-ghost use Rattle.std.specs.Prelude.{◌≡◌, ◌≤◌, ℕ, List, IfOk, length, option_map};
+ghost use Rattle.std.specs.Prelude.{◌≡◌, ◌≤◌, ℕ, List, IfOk, Some, length, option_map};
 ghost use Rattle.chip_base.specs.Settings.{values_of};
 ghost use Rattle.neo_cli.specs.Inputs.{file_named, image_named, limit_of, script_named, settings_named};
 ghost use Rattle.script_text.specs.ScriptFile.{empty};
@@ -40,7 +40,7 @@ pub fn read_settings<'a, S: Shelf>(
     name: Option<&'a str>,
     shelf: &mut S,
 ) -> Result<Setup, Refusal<'a>>
-    ensures gives { Gives (S.told shelf.old) 65536 (file_named (S.file shelf.old) (option_map (λ s. s.now) name.entry))
+    ensures gives { Gives (S.told shelf.old) Input.Chip (option_map (λ s. s.now) name.entry) (file_named (S.file shelf.old) (option_map (λ s. s.now) name.entry))
         (settings_named (option_map (λ s. s.now) name.entry)) (S.read_faults shelf.old) (S.read_faults shelf.new) (mapped values_of result) }
     ensures later { S.read_faults shelf.old ≤ S.read_faults shelf.new }
     ensures told_stays { S.told shelf.new ≡ S.told shelf.old }
@@ -61,7 +61,7 @@ pub fn read_image<'a, S: Shelf>(
     name: &'a str,
     shelf: &mut S,
 ) -> Result<Vec<u8>, Refusal<'a>>
-    ensures gives { Gives (S.told shelf.old) 2097152 (S.file shelf.old name.entry.now) (image_named room name.entry.now)
+    ensures gives { Gives (S.told shelf.old) Input.Image (Some name.entry.now) (S.file shelf.old name.entry.now) (image_named room name.entry.now)
         (S.read_faults shelf.old) (S.read_faults shelf.new) (mapped (λ v. v.items) result) }
     ensures fits { IfOk result (λ v. length v.items ≤ room) }
     ensures later { S.read_faults shelf.old ≤ S.read_faults shelf.new }
@@ -85,12 +85,12 @@ fn no_script(alloc: Global) -> Script
 }
 
 /// The script: the file of this name, or one that does nothing where none is named.
-pub fn read_steps<'a, S: Shelf>(
+pub fn read_script_file<'a, S: Shelf>(
     alloc: Global,
     name: Option<&'a str>,
     shelf: &mut S,
 ) -> Result<Script, Refusal<'a>>
-    ensures gives { Gives (S.told shelf.old) 1048576 (file_named (S.file shelf.old) (option_map (λ s. s.now) name.entry))
+    ensures gives { Gives (S.told shelf.old) Input.Script (option_map (λ s. s.now) name.entry) (file_named (S.file shelf.old) (option_map (λ s. s.now) name.entry))
         (script_named (option_map (λ s. s.now) name.entry)) (S.read_faults shelf.old) (S.read_faults shelf.new) result }
     ensures later { S.read_faults shelf.old ≤ S.read_faults shelf.new }
     ensures told_stays { S.told shelf.new ≡ S.told shelf.old }
