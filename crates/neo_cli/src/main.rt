@@ -7,6 +7,8 @@ mod files;
 mod input;
 mod judge;
 mod outcome;
+#[cfg(test)]
+mod programs;
 mod refusal;
 mod report;
 mod run;
