@@ -39,13 +39,12 @@ fn beginning<R: Files>(rt: &R, alloc: Global, name: &str, limit: u32) -> io::Res
 }
 
 impl Shelf for FileShelf<'_> {
-    ghost told = { λ _. false };
-
-    ghost file = { λ _ _. None };
-
-    ghost read_faults = { λ s. s.read_faults };
-
-    ghost write_faults = { λ s. s.write_faults };
+    ghost held = { λ s. record {
+        told = false;
+        file = λ _. None;
+        read_faults = s.read_faults;
+        write_faults = s.write_faults;
+    } };
 
     fn read(&mut self, alloc: Global, name: &str, limit: u32) -> Result<Vec<u8>, ShelfFault> {
         let fault = match beginning(self.rt, alloc, name, limit) {

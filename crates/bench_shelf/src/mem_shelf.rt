@@ -98,13 +98,12 @@ fn put(
 }
 
 impl Shelf for MemShelf {
-    ghost told = { λ _. true };
-
-    ghost file = { λ s q. file_in s.files.items q };
-
-    ghost read_faults = { λ s. s.read_faults };
-
-    ghost write_faults = { λ s. s.write_faults };
+    ghost held = { λ s. record {
+        told = true;
+        file = λ q. file_in s.files.items q;
+        read_faults = s.read_faults;
+        write_faults = s.write_faults;
+    } };
 
     fn read(&mut self, alloc: Global, name: &str, limit: u32) -> Result<Vec<u8>, ShelfFault>
         // the call is counted, and no more than that changes but the count of faults

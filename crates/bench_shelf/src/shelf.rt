@@ -1,5 +1,6 @@
 //! A shelf of named files.
 ghost use Rattle.std.specs.Prelude.{◌≡◌, ℕ, ◌<◌, ◌≤◌, List, Option, Some, None, Bool, true, IsTrue, IfOk, OnOk, IsErrOf, ◌⊎◌, length, vec_len};
+ghost use Rattle.bench_shelf.specs.Held.{Held};
 ghost use Rattle.soc_words.specs.Causes.{Rose};
 
 use std::alloc::Global;
@@ -22,50 +23,41 @@ pub enum ShelfFault {
 /// Files that are read and written whole, by their names. Two counts of faults, one for reads and one for writes, never fall. A
 /// count stands still at 2^64 - 1.
 pub trait Shelf {
-    /// The shelf tells its files.
-    ghost told: { Self → Bool };
-
-    /// The bytes of the file of a name, where the shelf tells its files.
-    ghost file: { Self → List ℕ → Option (List ℕ) };
-
-    /// How often reads have failed.
-    ghost read_faults: { Self → ℕ };
-
-    /// How often writes have failed.
-    ghost write_faults: { Self → ℕ };
+    /// What the shelf holds, and how often it has failed.
+    ghost held: { Self → Held };
 
     /// Reads the whole file, if it has at most `limit` bytes, and changes no file. `Failed` comes where the file isn't there or the
     /// shelf failed, `Long` where the file has more than `limit` bytes.
     fn read(&mut self, alloc: Global, name: &str, limit: u32) -> Result<Vec<u8>, ShelfFault>
-        ensures told_stays { told self.new ≡ told self.old }
-        ensures files_stay { (q : List ℕ) → file self.new q ≡ file self.old q }
-        ensures writes { write_faults self.new ≡ write_faults self.old }
-        ensures later { read_faults self.old ≤ read_faults self.new }
-        ensures no_fault { OnOk result (read_faults self.new ≡ read_faults self.old) }
+        ensures told_stays { (held self.new).told ≡ (held self.old).told }
+        ensures files_stay { (q : List ℕ) → (held self.new).file q ≡ (held self.old).file q }
+        ensures writes { (held self.new).write_faults ≡ (held self.old).write_faults }
+        ensures later { (held self.old).read_faults ≤ (held self.new).read_faults }
+        ensures no_fault { OnOk result ((held self.new).read_faults ≡ (held self.old).read_faults) }
         ensures short { IfOk result (λ bytes. vec_len bytes ≤ limit) }
-        ensures whole { IfOk result (λ bytes. IsTrue (told self.old) → file self.old name.now ≡ Some bytes.items) }
+        ensures whole { IfOk result (λ bytes. IsTrue ((held self.old).told) → (held self.old).file name.now ≡ Some bytes.items) }
 
         // a missing file is no fault of a shelf that tells its files
-        ensures missing { IsTrue (told self.old) → file self.old name.now ≡ None →
-            (IsErrOf result ShelfFault.Failed ⊎ IsErrOf result ShelfFault.Memory) × (read_faults self.new ≡ read_faults self.old) }
+        ensures missing { IsTrue ((held self.old).told) → (held self.old).file name.now ≡ None →
+            (IsErrOf result ShelfFault.Failed ⊎ IsErrOf result ShelfFault.Memory) × ((held self.new).read_faults ≡ (held self.old).read_faults) }
         ensures failed { IsErrOf result ShelfFault.Failed →
-            (IsTrue (told self.old) × (file self.old name.now ≡ None)) ⊎ Rose (read_faults self.old) (read_faults self.new) }
+            (IsTrue ((held self.old).told) × ((held self.old).file name.now ≡ None)) ⊎ Rose ((held self.old).read_faults) ((held self.new).read_faults) }
 
         // a told file that is too long is no fault either
         ensures long { (n : ℕ) → IsErrOf result (ShelfFault.Long n) → n ≡ limit }
-        ensures long_told { (n : ℕ) → IsErrOf result (ShelfFault.Long n) → IsTrue (told self.old) →
-            ((bytes : List ℕ) × (file self.old name.now ≡ Some bytes) × (limit < length bytes)) × (read_faults self.new ≡ read_faults self.old) }
-        ensures long_untold { (n : ℕ) → IsErrOf result (ShelfFault.Long n) → told self.old ≡ true ⊎ Rose (read_faults self.old) (read_faults self.new) };
+        ensures long_told { (n : ℕ) → IsErrOf result (ShelfFault.Long n) → IsTrue ((held self.old).told) →
+            ((bytes : List ℕ) × ((held self.old).file name.now ≡ Some bytes) × (limit < length bytes)) × ((held self.new).read_faults ≡ (held self.old).read_faults) }
+        ensures long_untold { (n : ℕ) → IsErrOf result (ShelfFault.Long n) → (held self.old).told ≡ true ⊎ Rose ((held self.old).read_faults) ((held self.new).read_faults) };
 
     /// Makes the file of this name these bytes, whether it was there or not. Every other file stays as it was, also where the
     /// write is refused.
     fn write(&mut self, name: &str, bytes: &[u8]) -> Result<(), ShelfFault>
-        ensures told_stays { told self.new ≡ told self.old }
-        ensures reads { read_faults self.new ≡ read_faults self.old }
-        ensures later { write_faults self.old ≤ write_faults self.new }
-        ensures no_fault { OnOk result (write_faults self.new ≡ write_faults self.old) }
-        ensures written { OnOk result (IsTrue (told self.old) → file self.new name.now ≡ Some bytes.now) }
-        ensures others { (q : List ℕ) → (q ≡ name.now → ⊥) → file self.new q ≡ file self.old q }
-        ensures failed { IsErrOf result ShelfFault.Failed → Rose (write_faults self.old) (write_faults self.new) }
+        ensures told_stays { (held self.new).told ≡ (held self.old).told }
+        ensures reads { (held self.new).read_faults ≡ (held self.old).read_faults }
+        ensures later { (held self.old).write_faults ≤ (held self.new).write_faults }
+        ensures no_fault { OnOk result ((held self.new).write_faults ≡ (held self.old).write_faults) }
+        ensures written { OnOk result (IsTrue ((held self.old).told) → (held self.new).file name.now ≡ Some bytes.now) }
+        ensures others { (q : List ℕ) → (q ≡ name.now → ⊥) → (held self.new).file q ≡ (held self.old).file q }
+        ensures failed { IsErrOf result ShelfFault.Failed → Rose ((held self.old).write_faults) ((held self.new).write_faults) }
         ensures never_long { (n : ℕ) → IsErrOf result (ShelfFault.Long n) → ⊥ };
 }

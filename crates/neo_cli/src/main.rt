@@ -1,22 +1,8 @@
 //! `neo`, a bench simulator of one small RISC-V system on chip: runs firmware under scripted input, and reports what left the chip.
 #![tactic(auto)]
 
-mod bank;
-mod bench;
-mod files;
-mod input;
-mod judge;
-mod outcome;
-#[cfg(test)]
-mod programs;
-mod refusal;
-mod report;
-mod run;
-mod tell;
-#[cfg(test)]
-mod tests;
-
 use bench_shelf::{FileShelf, OutSink};
+use bench_top::bench;
 use std::io::ErrorKind;
 use std::process::ExitCode;
 use std::{env, io};
@@ -43,6 +29,6 @@ fn main(rt: HostRuntime) -> ExitCode {
     };
     let mut shelf = FileShelf::new(&rt);
     let mut out = OutSink::new(io::writer(&rt));
-    let status = bench::bench(&rt, rt.alloc(), &words, &mut shelf, &mut out);
+    let status = bench(&rt, rt.alloc(), &words, &mut shelf, &mut out);
     ExitCode::from(status)
 }

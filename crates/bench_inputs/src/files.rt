@@ -1,0 +1,67 @@
+//! The files of a job, read and judged one by one.
+ghost use Rattle.std.specs.Prelude.{◌≡◌, ◌≤◌, IfOk, length, option_map};
+ghost use Rattle.chip_base.specs.Settings.{values_of};
+ghost use Rattle.bench_inputs.specs.Inputs.{image_reading, script_reading, settings_reading};
+ghost use Rattle.bench_plan.specs.Steps.{Reads, mapped};
+ghost use Rattle.script_text.specs.ScriptFile.{empty};
+
+use crate::judge::{judge_chip, judge_image, judge_script};
+use bench_plan::{Stop, fetch};
+use bench_shelf::Shelf;
+use chip_base::{Pins, Script, Setup, Steps0};
+use std::alloc::Global;
+
+/// The settings of the chip: those of the file of this name, of at most 65,536 bytes, or the standard ones where none is named.
+pub fn read_settings<S: Shelf>(
+    alloc: Global,
+    name: Option<&str>,
+    shelf: &mut S,
+) -> Result<Setup, Stop>
+    ensures { Reads (S.held shelf.old) (S.held shelf.new) (settings_reading (option_map (λ s. s.now) name.entry)) (mapped values_of result) }
+{
+    let Some(name) = name else {
+        return Ok(Setup::standard());
+    };
+    let bytes = fetch(alloc, name, 65_536, shelf)?;
+    judge_chip(alloc, &bytes)
+}
+
+/// The image of this name, of at most 2,097,152 bytes, which must have room in an IMEM of this many bytes.
+pub fn read_image<S: Shelf>(
+    alloc: Global,
+    room: u32,
+    name: &str,
+    shelf: &mut S,
+) -> Result<Vec<u8>, Stop>
+    ensures reads { Reads (S.held shelf.old) (S.held shelf.new) (image_reading room name.now) (mapped (λ v. v.items) result) }
+    ensures fits { IfOk result (λ v. length v.items ≤ room) }
+{
+    let image = fetch(alloc, name, 2_097_152, shelf)?;
+    judge_image(alloc, image, room)
+}
+
+/// A script that does nothing.
+fn no_script(alloc: Global) -> Script
+    ensures { result ≡ empty }
+{
+    Script {
+        pins: Pins::from_vec(Vec::new(alloc)).unwrap(),
+        uart0: Steps0::from_vec(Vec::new(alloc)).unwrap(),
+        uart1: Steps0::from_vec(Vec::new(alloc)).unwrap(),
+    }
+}
+
+/// The script: the file of this name, of at most 1,048,576 bytes, or one that does nothing where none is named.
+pub fn read_script_file<S: Shelf>(
+    alloc: Global,
+    name: Option<&str>,
+    shelf: &mut S,
+) -> Result<Script, Stop>
+    ensures { Reads (S.held shelf.old) (S.held shelf.new) (script_reading (option_map (λ s. s.now) name.entry)) result }
+{
+    let Some(name) = name else {
+        return Ok(no_script(alloc));
+    };
+    let text = fetch(alloc, name, 1_048_576, shelf)?;
+    judge_script(alloc, &text)
+}

@@ -1,0 +1,8 @@
+//! The files of a job, read and judged one by one.
+#![tactic(auto)]
+
+mod files;
+mod judge;
+mod lines;
+
+pub use files::{read_image, read_script_file, read_settings};

@@ -1,0 +1,88 @@
+//! The lines of refusals.
+ghost use Rattle.std.specs.Prelude.{◌≡◌, ℕ, ◌+◌, ◌≤◌, ◌++◌, List, IfOk, codes, length};
+ghost use Rattle.soc_words.specs.Text.{line};
+ghost use Rattle.bench_inputs.specs.Lines.{kind_name, line_fault, line_text, range_text, size_fault, size_text};
+ghost use Rattle.bench_plan.specs.Steps.{IsRefusal};
+
+use bench_plan::{Refusal, Stop, refused};
+use script_text::{ScriptFault, ScriptKind};
+use std::alloc::{AllocError, Global};
+use text_line::Line;
+
+/// The line of a chip file in which the value of this key is outside its range.
+#[tactic(auto, unfolding(crate::specs::Lines::range_text))]
+fn range_line(alloc: Global, key: &[u8]) -> Result<Vec<u8>, AllocError>
+    ensures { IfOk result (λ v. v.items ≡ range_text key.now) }
+{
+    let mut line = Vec::new(alloc);
+    line.extend_from_slice(b"error chip range ")?;
+    line.extend_from_slice(key)?;
+    line.push(b'\n')?;
+    Ok(line)
+}
+
+/// Refuses a chip file in which the value of this key is outside its range.
+pub fn range_refused(alloc: Global, key: &[u8]) -> Stop
+    ensures { IsRefusal (record { status = 6; text = range_text key.now }) result }
+{
+    match range_line(alloc, key) {
+        Ok(line) => Stop::Refused(Refusal::new(6, line)),
+        Err(_) => Stop::Memory,
+    }
+}
+
+/// The line of an image of this size.
+#[tactic(auto, unfolding(crate::specs::Lines::size_text))]
+fn size_line(size: usize) -> Line
+    ensures { result ≡ size_text size }
+{
+    let mut line = Line::new();
+    line.push(b"error image size ");
+    line.push_number(size as u64);
+    line.push(b"\n");
+    line
+}
+
+/// Refuses an image of this size.
+pub fn size_refused(alloc: Global, size: usize) -> Stop
+    ensures { IsRefusal (size_fault size) result }
+{
+    refused(alloc, 4, size_line(size).as_slice())
+}
+
+/// The word for what is wrong in a line of a script.
+fn kind_word(kind: ScriptKind) -> &'static [u8]
+    ensures word { result.now ≡ kind_name kind }
+    ensures short { length result.now ≤ 6 }
+{
+    match kind {
+        ScriptKind::Word => b"word",
+        ScriptKind::Number => b"number",
+        ScriptKind::Order => b"order",
+        ScriptKind::Hex => b"hex",
+        ScriptKind::Pin => b"pin",
+        ScriptKind::Text => b"text",
+        ScriptKind::Memory => b"memory",
+    }
+}
+
+/// The line of a script's first faulty line.
+#[tactic(auto, unfolding(crate::specs::Lines::line_text))]
+fn fault_line(fault: &ScriptFault) -> Line
+    ensures { result ≡ line_text fault.now }
+{
+    let mut line = Line::new();
+    line.push(b"error script line ");
+    line.push_number(fault.line as u64);
+    line.push(b" ");
+    line.push(kind_word(fault.kind));
+    line.push(b"\n");
+    line
+}
+
+/// Refuses a script by its first faulty line.
+pub fn line_refused(alloc: Global, fault: &ScriptFault) -> Stop
+    ensures { IsRefusal (line_fault fault.now) result }
+{
+    refused(alloc, 5, fault_line(fault).as_slice())
+}

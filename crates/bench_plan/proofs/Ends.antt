@@ -1,0 +1,111 @@
+-- What a plan may come to.
+use Rattle.std.proofs.Common.{◌≡◌, ◌≢◌, ◌≤◌, ℕ, arith, inl, inr, Bool, true, false, List, [], ◌++◌, Option, Some, None, Result, Ok, Err, refl, ap, sym, subst, ◌∙◌}
+use Rattle.std.specs.Prelude.{◌⊎◌, ◌==◌, IsTrue}
+use Rattle.std.proofs.lemmas.Bool.Decides.{Decides-eqb}
+use Rattle.bench_shelf.specs.Held.{Held}
+use Rattle.bench_shelf.proofs.Writing.{appended_none}
+use Rattle.soc_words.specs.Causes.{Rose, appended, AppendsBeginning}
+use Rattle.bench_plan.specs.Answers.{Done, File, ended, refused}
+use Rattle.bench_plan.specs.Calls.{Call, Tells}
+use Rattle.bench_plan.specs.Ends.{Ends, EndsBoth}
+use Rattle.bench_plan.specs.Keeps.{Keeps, MayMake}
+use Rattle.bench_plan.specs.Readings.{Fault, Reading, gives, refuses, asks, followed}
+use Rattle.bench_plan.specs.Steps.{Comes}
+
+pub comes_ends : {A : Type 0} (P : A → Type 0) (Q : Fault → Type 0) (h : Held) (p : Reading A) (r : Result A Fault) → Ends P Q p → Comes h p r → EndsBoth P Q r
+comes_ends P Q h (gives a) r e c = subst (EndsBoth P Q) (sym c) e
+comes_ends P Q h (refuses fault) r e c = subst (EndsBoth P Q) (sym c) e
+comes_ends P Q h (asks name limit next) r e c = comes_ends P Q h (next c.0) r (e c.0) c.2
+
+-- a weaker claim
+pub ends_weaker : {A : Type 0} (P R : A → Type 0) (Q S : Fault → Type 0) (p : Reading A) → ((a : A) → P a → R a) → ((f : Fault) → Q f → S f) → Ends P Q p → Ends R S p
+ends_weaker P R Q S (gives a) given fault e = given a e
+ends_weaker P R Q S (refuses f) given fault e = fault f e
+ends_weaker P R Q S (asks name limit next) given fault e = λ b. ends_weaker P R Q S (next b) given fault (e b)
+
+-- where one reading is followed by another, one of both is refused, or each gives its value
+pub comes_split : {A B : Type 0} (h : Held) (p : Reading A) (f : A → Reading B) (r : Result B Fault) → Comes h (followed p f) r
+    → ((fault : Fault) × (r ≡ Err fault) × Comes h p (Err fault)) ⊎ ((a : A) × Comes h p (Ok a) × Comes h (f a) r)
+comes_split h (gives a) f r c = inr (a, refl, c)
+comes_split h (refuses fault) f r c = inl (fault, c, refl)
+comes_split h (asks name limit next) f r c = elim (comes_split h (next c.0) f r c.2) [
+  | inl x ↦ inl (x.0, x.1, (c.0, c.1, x.2))
+  | inr x ↦ inr (x.0, (c.0, c.1, x.1), x.2)
+]
+
+pub ends_then : {A B : Type 0} (P : A → Type 0) (R : B → Type 0) (Q : Fault → Type 0) (p : Reading A) (f : A → Reading B) → Ends P Q p → ((a : A) → P a → Ends R Q (f a))
+    → Ends R Q (followed p f)
+ends_then P R Q (gives a) f e next = next a e
+ends_then P R Q (refuses fault) f e next = e
+ends_then P R Q (asks name limit rest) f e next = λ b. ends_then P R Q (rest b) f (e b) next
+
+ok_not_err : {d : Done} {fault : Fault} → ◌≡◌ {A = Result Done Fault} (Ok d) (Err fault) → ⊥
+ok_not_err e = absurd (cc)
+
+-- a plan that makes no file changes none
+pub keeps_still : (Q : Fault → Type 0) (plan : Reading Done) (c : Call) → Ends (λ d. d.out ≡ None) Q plan → Keeps plan c
+    → (c.after.write_faults ≡ c.before.write_faults) × ((q : List ℕ) → c.after.file q ≡ c.before.file q)
+keeps_still Q plan c e k = (k.no_writes makes_none, λ q. k.others q (makes_none q))
+  where
+    none_some : {out : Option File} {f : File} → out ≡ None → out ≡ Some f → ⊥
+    none_some a b = absurd (cc)
+
+    makes_none : (q : List ℕ) → MayMake plan c q → ⊥
+    makes_none q m = none_some (comes_ends (λ d. d.out ≡ None) Q c.before plan (Ok m.0) e m.2) m.3
+
+-- a plan that refuses at once
+pub keeps_refuses : (fault : Fault) (c : Call) → fault.status ≢ 0 → fault.status ≢ 3 → fault.status ≢ 7 → fault.status ≢ 9 → Keeps (refuses fault) c
+    → (c.after.read_faults ≡ c.before.read_faults) × Tells (refused fault) c
+keeps_refuses fault c zero three seven nine k = (reads, by_status)
+  where
+    reads : c.after.read_faults ≡ c.before.read_faults
+    reads = k.no_reads (λ name limit a. a)
+
+    still : (c.after.write_faults ≡ c.before.write_faults) × ((q : List ℕ) → c.after.file q ≡ c.before.file q)
+    still = keeps_still (λ f. Unit {0}) (refuses fault) c tt k
+
+    not_missed : c.status ≡ 3 → ⊥
+    not_missed e = (k.refused e).misses.asked
+
+    told : c.status ≢ 9 → Tells (refused fault) c
+    told other = let r = k.ran not_missed other in subst (λ w. Tells (ended w) c) r.comes r.tells
+
+    begins : c.status ≡ 9 → AppendsBeginning c.written c.written_after fault.text
+    begins nine = elim (k.want_of_memory nine) [
+      | inl silent ↦ record { front = []; back = fault.text; whole = refl; new_is = silent ∙ appended_none c.written }
+      | inr other ↦ elim other [
+        | inl b ↦ subst (λ w. AppendsBeginning c.written c.written_after (ended w).text) b.comes b.text
+        | inr b ↦ absurd b.misses.asked
+      ]
+    ]
+
+    wanting : c.status ≡ 9 → Tells (refused fault) c
+    wanting e = record {
+      told = k.told_stays;
+      reads = reads;
+      writes_later = k.writes_later;
+      puts_later = k.puts_later;
+      statuses = inr (inl e);
+      beginning = begins e;
+      whole = λ same. absurd (nine (sym same ∙ e));
+      made = λ same. tt;
+      cut_short = λ failed. absurd (nine_seven (sym e ∙ failed));
+      no_fault = λ none. absurd (nine_zero (sym e ∙ none));
+      changes = still;
+    }
+      where
+        nine_seven : ◌≡◌ {A = ℕ} 9 7 → ⊥
+        nine_seven x = absurd (cc)
+
+        nine_zero : ◌≡◌ {A = ℕ} 9 0 → ⊥
+        nine_zero x = absurd (cc)
+
+    by_test : (b : Bool) → (c.status == 9) ≡ b → Tells (refused fault) c
+    by_test true e = wanting ((Decides-eqb c.status 9).0 e)
+    by_test false e = told (λ same. true_false (sym ((Decides-eqb c.status 9).1 same) ∙ e))
+      where
+        true_false : true ≡ false → ⊥
+        true_false x = absurd (cc)
+
+    by_status : Tells (refused fault) c
+    by_status = by_test (c.status == 9) refl

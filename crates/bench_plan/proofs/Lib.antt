@@ -1,0 +1,4 @@
+pub mod Readings
+pub mod Told
+pub mod Keeping
+pub mod Ends

@@ -1,0 +1,65 @@
+-- A call that tells an answer.
+use Rattle.std.specs.Prelude.{◌≡◌, ◌≢◌, ℕ, ◌≤◌, ◌⊎◌, IsTrue, List, Option, Some, None}
+use Rattle.bench_shelf.specs.Held.{Held}
+use Rattle.soc_words.specs.Causes.{Rose, appended, AppendsBeginning}
+use Rattle.bench_plan.specs.Answers.{Answer, File, refused}
+use Rattle.bench_plan.specs.declared.stop.Stop.{Stop}
+use Rattle.bench_plan.specs.declared.stop.Stop.TheVariants.{Refused, Memory}
+
+-- a call over a shelf and a sink: what the shelf held before it and after it, what was written to the sink, how often the sink had
+-- failed, and the status
+pub record Call : Type 0 where
+  pub before : Held
+  pub after : Held
+  pub written : Option (List ℕ)
+  pub written_after : Option (List ℕ)
+  pub puts : ℕ
+  pub puts_after : ℕ
+  pub status : ℕ
+
+-- the file, if there is one, has its bytes
+abbrev pub IsMade : Option File → Held → Type 0
+IsMade None h = Unit {0}
+IsMade (Some f) h = IsTrue h.told → h.file f.name ≡ Some f.bytes
+
+-- only this file may have changed, and nothing was written where there is none
+abbrev pub ChangesOnly : Option File → Held → Held → Type 0
+ChangesOnly None old new = (new.write_faults ≡ old.write_faults) × ((q : List ℕ) → new.file q ≡ old.file q)
+ChangesOnly (Some f) old new = (q : List ℕ) → (q ≡ f.name → ⊥) → new.file q ≡ old.file q
+
+-- a beginning of the text was appended, and all of it where the sink didn't fail
+abbrev pub WritesText : List ℕ → Call → Type 0
+WritesText text c = AppendsBeginning c.written c.written_after text × ((Rose c.puts c.puts_after → ⊥) → c.written_after ≡ appended c.written text)
+
+-- an answer is told: with its status, or with 9, or with 7 where its status is 0. A beginning of the text is appended, and all of it where
+-- memory is had and the sink doesn't fail; the file is made, where memory is had and the shelf doesn't fail
+pub record Tells (wanted : Answer) (c : Call) : Type 0 where
+  pub told : c.after.told ≡ c.before.told
+  pub reads : c.after.read_faults ≡ c.before.read_faults
+  pub writes_later : c.before.write_faults ≤ c.after.write_faults
+  pub puts_later : c.puts ≤ c.puts_after
+  pub statuses : (c.status ≡ wanted.status) ⊎ ((c.status ≡ 9) ⊎ ((wanted.status ≡ 0) × (c.status ≡ 7)))
+  pub beginning : AppendsBeginning c.written c.written_after wanted.text
+  pub whole : c.status ≡ wanted.status → (c.written_after ≡ appended c.written wanted.text) ⊎ Rose c.puts c.puts_after
+  pub made : c.status ≡ wanted.status → IsMade wanted.out c.after
+  pub cut_short : c.status ≡ 7 → Rose c.before.write_faults c.after.write_faults ⊎ (Rose c.puts c.puts_after × IsMade wanted.out c.after)
+  pub no_fault : c.status ≡ 0 → (c.puts_after ≡ c.puts) × (c.after.write_faults ≡ c.before.write_faults)
+  pub changes : ChangesOnly wanted.out c.before c.after
+
+-- an answer without a file is told to a sink, over any shelf
+abbrev pub Says : Answer → Option (List ℕ) → Option (List ℕ) → ℕ → ℕ → ℕ → Type 0
+Says wanted written written_after puts puts_after status = (h : Held) → Tells wanted (record {
+  before = h;
+  after = h;
+  written = written;
+  written_after = written_after;
+  puts = puts;
+  puts_after = puts_after;
+  status = status;
+})
+
+-- why a job isn't done is told: a refusal by its line, want of memory by its status alone
+abbrev pub TellsStop : Stop → Option (List ℕ) → Option (List ℕ) → ℕ → ℕ → ℕ → Type 0
+TellsStop (Refused fault) written written_after puts puts_after status =
+    (fault.status ≢ 7) × (fault.status ≢ 9) × Says (refused fault) written written_after puts puts_after status
+TellsStop Memory written written_after puts puts_after status = (status ≡ 9) × (written_after ≡ written) × (puts_after ≡ puts)

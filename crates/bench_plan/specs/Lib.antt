@@ -1,0 +1,6 @@
+pub mod Answers
+pub mod Calls
+pub mod Ends
+pub mod Keeps
+pub mod Readings
+pub mod Steps

@@ -1,0 +1,79 @@
+-- What reading for a job comes to.
+use Rattle.std.specs.Prelude.{◌≡◌, ◌≢◌, ℕ, ◌<◌, ◌≤◌, ◌⊎◌, Bool, false, IsTrue, List, length, Option, Some, None, Result, Ok, Err}
+use Rattle.bench_shelf.specs.Held.{Held}
+use Rattle.soc_words.specs.Causes.{Rose}
+use Rattle.bench_plan.specs.Answers.{long_text, unread_text}
+use Rattle.bench_plan.specs.Readings.{Fault, Reading, gives, refuses, asks}
+use Rattle.bench_plan.specs.declared.stop.Stop.{Stop}
+use Rattle.bench_plan.specs.declared.stop.Stop.TheVariants.{Refused, Memory}
+
+-- these are the bytes that were read of a file, which is within its limit; of a shelf that tells, they are the file's
+abbrev pub IsRead : Held → List ℕ → ℕ → List ℕ → Type 0
+IsRead h name limit bytes = (length bytes ≤ limit) × (IsTrue h.told → h.file name ≡ Some bytes)
+
+-- over the files as they were read the reading comes to this
+abbrev pub Comes : {A : Type 0} → Held → Reading A → Result A Fault → Type 0
+Comes h (gives a) r = r ≡ Ok a
+Comes h (refuses fault) r = r ≡ Err fault
+Comes h (asks name limit next) r = (bytes : List ℕ) × IsRead h name limit bytes × Comes h (next bytes) r
+
+-- the reading asks for this file, and refuses none before it
+abbrev pub Asks : {A : Type 0} → Held → Reading A → List ℕ → ℕ → Type 0
+Asks h (gives a) name limit = ⊥
+Asks h (refuses fault) name limit = ⊥
+Asks h (asks n l next) name limit = ((name ≡ n) × (limit ≡ l)) ⊎ ((bytes : List ℕ) × IsRead h n l bytes × Asks h (next bytes) name limit)
+
+-- why a file isn't read: it isn't there, or a read failed
+abbrev pub IsUnread : Held → Held → List ℕ → Type 0
+IsUnread old new name = (IsTrue old.told × (old.file name ≡ None)) ⊎ Rose old.read_faults new.read_faults
+
+-- the file is there and longer than the limit
+abbrev pub IsLong : ℕ → Option (List ℕ) → Type 0
+IsLong limit file = (bytes : List ℕ) × (file ≡ Some bytes) × (limit < length bytes)
+
+-- why a file is refused as too long: it is, or the shelf doesn't tell and a read failed
+abbrev pub IsTooLong : Held → Held → List ℕ → ℕ → Type 0
+IsTooLong old new name limit =
+    (IsTrue old.told × IsLong limit (old.file name)) ⊎ ((old.told ≡ false) × Rose old.read_faults new.read_faults)
+
+-- the line of a file that isn't read, and why. The reading asks for it, and refuses no file before it
+pub record Misses {A : Type 0} (old new : Held) (p : Reading A) (text : List ℕ) : Type 0 where
+  pub name : List ℕ
+  pub limit : ℕ
+  pub asked : Asks old p name limit
+  pub why : ((text ≡ unread_text name) × IsUnread old new name) ⊎ ((text ≡ long_text name) × IsTooLong old new name limit)
+
+-- what a reading comes to, and why. Memory may be wanted anywhere; where no file is asked for, no read fails
+abbrev pub Results : {A : Type 0} → Held → Held → Reading A → Result A Stop → Type 0
+Results old new p (Ok a) = (new.read_faults ≡ old.read_faults) × Comes old p (Ok a)
+Results old new p (Err (Refused fault)) =
+    ((new.read_faults ≡ old.read_faults) × (fault.status ≢ 3) × Comes old p (Err fault)) ⊎ ((fault.status ≡ 3) × Misses old new p fault.text)
+Results old new p (Err Memory) = (new.read_faults ≡ old.read_faults) ⊎ ((name : List ℕ) × (limit : ℕ) × Asks old p name limit)
+
+-- no file is changed
+pub record Stays (old new : Held) : Type 0 where
+  pub told : new.told ≡ old.told
+  pub files : (q : List ℕ) → new.file q ≡ old.file q
+  pub writes : new.write_faults ≡ old.write_faults
+  pub later : old.read_faults ≤ new.read_faults
+
+-- the call reads what the reading asks for
+pub record Reads {A : Type 0} (old new : Held) (p : Reading A) (result : Result A Stop) : Type 0 where
+  pub stays : Stays old new
+  pub results : Results old new p result
+
+-- a result, with its value changed
+abbrev pub mapped : {A B : Type 0} → (A → B) → Result A Stop → Result B Stop
+mapped f (Ok a) = Ok (f a)
+mapped f (Err stop) = Err stop
+
+-- what judging gives: what is meant, or memory was wanted
+abbrev pub Judges : {A : Type 0} → Result A Fault → Result A Stop → Type 0
+Judges means (Ok a) = means ≡ Ok a
+Judges means (Err (Refused fault)) = (fault.status ≢ 3) × (means ≡ Err fault)
+Judges means (Err Memory) = Unit {0}
+
+-- the job is refused so, or memory was wanted for the line
+abbrev pub IsRefusal : Fault → Stop → Type 0
+IsRefusal fault (Refused f) = f ≡ fault
+IsRefusal fault Memory = Unit {0}

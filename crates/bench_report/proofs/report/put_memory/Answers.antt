@@ -1,0 +1,22 @@
+use Rattle.std.proofs.Common.{◌≡◌, arith}
+use Rattle.soc_words.proofs.Texts.{joined_below-zero, joined_below-more}
+use Rattle.bench_shelf.proofs.Writing.{writes_begin, writes_then, loop_exit}
+use Rattle.bench_report.specs.Bank.{base_of, bytes_of}
+use Rattle.bench_report.specs.Report.{row_text_in}
+use Rattle.bench_report.proofs.report.put_memory.Goals as goal
+
+pub loop-number-init : goal.loop-number-init
+loop-number-init g c = rw joined_below-zero (writes_begin _ _ _)
+
+pub loop-number-preserved : goal.loop-number-preserved
+loop-number-preserved g c = rw joined_below-more (writes_then _ c.loop-number.invariant (rw (c.row-row.ensures, c.base.ensures) at c.in_ok-put_row.ensures))
+
+pub returns-in_err-put_row : goal.returns-in_err-put_row
+returns-in_err-put_row g c =
+    rw (← c.rows-rows.ensures.value) (loop_exit (row_text_in (base_of c.args.bank) (bytes_of c.args.chip.now.hub c.args.bank)) c.loop-number.number c.rows-rows.result c.from_residual.result (omega arith)
+    c.loop-number.invariant (rw (c.row-row.ensures, c.base.ensures) at c.in_err-put_row.ensures) c.from_residual.ensures.1)
+
+pub returns : goal.returns
+returns g c =
+    let all : c.loop-number.number ≡ c.rows-rows.result = omega (arith, c.loop-number-test.false, c.loop-number.auto.number-end) in
+    rw (← c.rows-rows.ensures.value, ← all) c.loop-number.invariant

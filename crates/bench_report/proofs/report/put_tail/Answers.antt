@@ -1,0 +1,18 @@
+use Rattle.bench_shelf.proofs.Writing.{writes_then, writes_stop, writes_exit}
+use Rattle.bench_report.specs.Report.{memory_text, end_text}
+use Rattle.bench_report.proofs.report.put_tail.Goals as goal
+
+pub returns-in_err-put_memory : goal.returns-in_err-put_memory
+returns-in_err-put_memory g c =
+    writes_exit end_text _ c.from_residual.ensures.1
+    (writes_stop (memory_text 2147483648 c.args.chip.now.hub.memory.dmem) c.in_err-put_memory.ensures)
+
+pub returns-in_err-put_memory-2 : goal.returns-in_err-put_memory-2
+returns-in_err-put_memory-2 g c =
+    writes_exit end_text _ c.from_residual-in_err-put_memory-2.ensures.1
+    (writes_then _ c.in_ok-put_memory.ensures c.in_err-put_memory-2.ensures)
+
+pub returns : goal.returns
+returns g c =
+    writes_then _ (writes_then _ c.in_ok-put_memory.ensures c.in_ok-put_memory-2.ensures)
+    (rw c.end_line.ensures at c.put_line.ensures)

@@ -1,8 +1,0 @@
-pub mod Events
-pub mod FileSteps
-pub mod Judged
-pub mod Order
-pub mod Rows
-pub mod Sizes
-pub mod Stretches
-pub mod Told
