@@ -1,10 +1,10 @@
 -- What the readings of a run may come to.
-use Rattle.std.proofs.Common.{◌≡◌, ◌<◌, ℕ, Bool, true, false, cond, List, length, Option, Some, None, Result, Ok, Err, refl, ap, sym}
+use Rattle.std.proofs.Common.{◌≡◌, ◌<◌, ℕ, Bool, true, false, cond, List, length, Option, Some, None, Result, Ok, Err, refl}
 use Rattle.std.specs.Prelude.{nat_lt}
 use Rattle.std.specs.Str.{is_utf8}
 use Rattle.std.proofs.lemmas.Bool.{ltb-true}
 use Rattle.bench_plan.specs.Ends.{Ends, EndsBoth}
-use Rattle.bench_plan.specs.Readings.{Fault, Reading, judged}
+use Rattle.bench_plan.specs.Readings.{Fault, judged}
 use Rattle.bench_plan.specs.Steps.{Comes, IsRead}
 use Rattle.bench_shelf.specs.Held.{Held}
 use Rattle.chip_base.specs.Settings.{Values}

@@ -1,14 +1,14 @@
 -- A call that reads by a plan and then tells what came of it keeps to the plan.
-use Rattle.std.proofs.Common.{◌≡◌, ◌≢◌, ◌≤◌, ℕ, arith, inl, inr, List, [], ◌∷◌, ◌++◌, Option, Some, None, Result, Ok, Err, refl, ap, sym, subst, ◌∙◌}
+use Rattle.std.proofs.Common.{◌≡◌, ◌≢◌, ◌≤◌, ℕ, arith, inl, inr, List, [], Option, Some, None, Result, Ok, Err, refl, ap, sym, subst, ◌∙◌}
 use Rattle.std.specs.Prelude.{◌⊎◌, IsTrue}
 use Rattle.bench_shelf.specs.Held.{Held}
 use Rattle.bench_shelf.proofs.Writing.{appended_none}
-use Rattle.soc_words.specs.Causes.{Rose, appended, AppendsBeginning}
-use Rattle.bench_plan.specs.Answers.{Answer, Done, File, answer_in, done, ended, long_text, missed, refused, unread_text}
-use Rattle.bench_plan.specs.Calls.{Call, ChangesOnly, IsMade, Says, Tells, TellsStop, WritesText}
-use Rattle.bench_plan.specs.Keeps.{Answers, BeginsAnswer, BeginsRefusal, CutsShort, IsQuiet, Keeps, MayMake, Refuses, Runs, TellsWhole, wanted_of}
+use Rattle.soc_words.specs.Causes.{Rose, AppendsBeginning}
+use Rattle.bench_plan.specs.Answers.{Answer, Done, File, answer_in, done, ended, missed, refused}
+use Rattle.bench_plan.specs.Calls.{Call, ChangesOnly, Tells, TellsStop}
+use Rattle.bench_plan.specs.Keeps.{Answers, CutsShort, IsQuiet, Keeps, MayMake, TellsWhole, wanted_of}
 use Rattle.bench_plan.specs.Readings.{Fault, Reading}
-use Rattle.bench_plan.specs.Steps.{Asks, Comes, IsTooLong, IsUnread, Misses, Reads, Results, Stays}
+use Rattle.bench_plan.specs.Steps.{Asks, Comes, Misses, Reads, Results, Stays}
 use Rattle.bench_plan.specs.declared.stop.Stop.{Stop}
 use Rattle.bench_plan.specs.declared.stop.Stop.TheVariants.{Refused, Memory}
 use Rattle.bench_plan.proofs.Told.{asks_long, asks_none, comes_answer}

@@ -1,11 +1,11 @@
 -- Readings one after another.
-use Rattle.std.proofs.Common.{◌≡◌, ◌≢◌, ◌<◌, ◌≤◌, ℕ, arith, inl, inr, Bool, true, false, List, length, Option, Some, None, Result, Ok, Err, refl, ap, sym, subst, ◌∙◌}
+use Rattle.std.proofs.Common.{◌≡◌, ◌≢◌, ◌<◌, ◌≤◌, ℕ, arith, inl, inr, Bool, true, false, List, length, Some, Result, Ok, Err, refl, ap, sym, subst, ◌∙◌}
 use Rattle.std.specs.Prelude.{◌⊎◌, IsTrue, IsErrAnd}
 use Rattle.bench_shelf.specs.Held.{Held}
 use Rattle.soc_words.specs.Causes.{Rose}
 use Rattle.bench_plan.specs.Answers.{long_text, unread_text}
 use Rattle.bench_plan.specs.Readings.{Fault, Reading, gives, refuses, asks, followed, asking, judged}
-use Rattle.bench_plan.specs.Steps.{Asks, Comes, IsLong, IsRefusal, IsRead, IsTooLong, IsUnread, Judges, Misses, Reads, Results, Stays, mapped}
+use Rattle.bench_plan.specs.Steps.{Asks, Comes, IsRefusal, IsRead, IsTooLong, IsUnread, Judges, Misses, Reads, Results, Stays, mapped}
 use Rattle.bench_plan.specs.declared.stop.Stop.{Stop}
 use Rattle.bench_plan.specs.declared.stop.Stop.TheVariants.{Refused, Memory}
 

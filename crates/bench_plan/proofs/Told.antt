@@ -1,6 +1,6 @@
 -- Over a shelf that tells its files, what a plan comes to is its answer.
-use Rattle.std.proofs.Common.{◌≡◌, ◌<◌, ◌≤◌, ℕ, inl, inr, cond, List, length, Option, Some, None, Result, Ok, Err, refl, ap, sym, ◌∙◌}
-use Rattle.std.specs.Prelude.{◌⊎◌, IsTrue}
+use Rattle.std.proofs.Common.{◌≡◌, ◌<◌, ◌≤◌, ℕ, inl, inr, cond, List, length, Some, None, Result, ap, sym, ◌∙◌}
+use Rattle.std.specs.Prelude.{IsTrue}
 use Rattle.std.proofs.lemmas.Bool.{le-ltb, lt-ltb}
 use Rattle.bench_shelf.specs.Held.{Held}
 use Rattle.bench_plan.specs.Answers.{Answer, Done, answer_in, by_file, ended, long_text, missed, unread_text}

@@ -1,5 +1,5 @@
 -- What a top call keeps to, whatever its shelf and its sink do.
-use Rattle.std.specs.Prelude.{◌≡◌, ◌≢◌, ℕ, ◌≤◌, ◌⊎◌, IsTrue, List, Option, Some, Result, Ok, Err}
+use Rattle.std.specs.Prelude.{◌≡◌, ◌≢◌, ℕ, ◌≤◌, ◌⊎◌, IsTrue, List, Option, Some, Result, Ok}
 use Rattle.soc_words.specs.Causes.{Rose, appended, AppendsBeginning}
 use Rattle.bench_plan.specs.Answers.{Answer, Done, File, answer_in, ended, missed}
 use Rattle.bench_plan.specs.Calls.{Call, ChangesOnly, IsMade, Tells, WritesText}

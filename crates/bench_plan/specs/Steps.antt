@@ -1,5 +1,5 @@
 -- What reading for a job comes to.
-use Rattle.std.specs.Prelude.{◌≡◌, ◌≢◌, ℕ, ◌<◌, ◌≤◌, ◌⊎◌, Bool, false, IsTrue, List, length, Option, Some, None, Result, Ok, Err}
+use Rattle.std.specs.Prelude.{◌≡◌, ◌≢◌, ℕ, ◌<◌, ◌≤◌, ◌⊎◌, false, IsTrue, List, length, Option, Some, None, Result, Ok, Err}
 use Rattle.bench_shelf.specs.Held.{Held}
 use Rattle.soc_words.specs.Causes.{Rose}
 use Rattle.bench_plan.specs.Answers.{long_text, unread_text}

@@ -1,3 +1,3 @@
 pub mod Bank
-pub mod Going
 pub mod Report
+pub mod Standing

@@ -1,8 +1,10 @@
 //! The bytes of the memories, row by row.
 ghost use Rattle.std.specs.Prelude.{◌≡◌, ℕ, ◌+◌, ◌*◌, ◌/◌, ◌%◌, ◌<◌, ◌≤◌, ◌++◌, List, length, slice_range};
 ghost use Rattle.bench_report.specs.Bank.{base_of, bytes_of};
+ghost use Rattle.bench_report.specs.Standing.{ForEach};
 
 use chip_net::Chip;
+use chip_whole::Standing;
 
 /// One of the two memories.
 #[derive(Clone, Copy, Debug, PartialEq, Eq)]
@@ -38,7 +40,7 @@ impl Bank {
 
     /// The number of rows of sixteen bytes.
     pub fn rows(self, chip: &Chip) -> u32
-        ensures value { result ≡ length (bytes_of chip.now.hub self) / 16 }
+        ensures value { ForEach ⟦<Chip as Standing>⟧.stands chip.now (λ s. result ≡ length (bytes_of s.hub self) / 16) }
         ensures few { result ≤ 65536 }
     {
         match self {
@@ -51,8 +53,7 @@ impl Bank {
     fn word(self, chip: &Chip, at: u32) -> [u8; 4]
         requires place { at % 4 ≡ 0 }
         requires below { at < 1048576 }
-        requires room { at + 4 ≤ length (bytes_of chip.now.hub self) }
-        ensures { result ≡ slice_range (bytes_of chip.now.hub self) at (at + 4) }
+        ensures { ForEach ⟦<Chip as Standing>⟧.stands chip.now (λ s. at + 4 ≤ length (bytes_of s.hub self) → result ≡ slice_range (bytes_of s.hub self) at (at + 4)) }
     {
         match chip.word(self.base() + at) {
             Some(word) => word.to_le_bytes(),
@@ -63,8 +64,8 @@ impl Bank {
     /// The row of sixteen bytes of this number.
     pub fn row(self, chip: &Chip, number: u32) -> [u8; 16]
         requires below { number < 65536 }
-        requires room { 16 * number + 16 ≤ length (bytes_of chip.now.hub self) }
-        ensures { result ≡ slice_range (bytes_of chip.now.hub self) (16 * number) (16 * number + 16) }
+        ensures { ForEach ⟦<Chip as Standing>⟧.stands chip.now (λ s. 16 * number + 16 ≤ length (bytes_of s.hub self)
+            → result ≡ slice_range (bytes_of s.hub self) (16 * number) (16 * number + 16)) }
     {
         let at = 16 * number;
         let first = self.word(chip, at);

@@ -5,13 +5,14 @@ ghost use Rattle.hex.specs.Hex.{encode_lower};
 ghost use Rattle.soc_words.specs.Text.{line, hex_word, joined_below};
 ghost use Rattle.bench_shelf.specs.Sink.{Writes};
 ghost use Rattle.bench_report.specs.Bank.{base_of, bytes_of};
-ghost use Rattle.bench_report.specs.Report.{cycles_text, unit_name, kind_name, value_text, event_text, events_text, boot_text, phase_text, hart_text, register_text, register_text_in, hart_lines_text, unless_parked, row_text, row_text_in, memory_text, end_text, harts_text, tail_text};
-ghost use Rattle.bench_report.specs.Report.{shown};
+ghost use Rattle.bench_report.specs.Report.{cycles_text, unit_name, kind_name, value_text, event_text, events_text, boot_text, phase_text, hart_text, register_text, register_text_in, hart_lines_text, unless_parked, row_text, row_text_in, memory_text, end_text};
+ghost use Rattle.bench_report.specs.Standing.{ForEach};
 
 use crate::bank::Bank;
 use bench_shelf::{Sink, SinkFault};
 use chip_base::{BootView, Event, EventKind, HartView, PhaseWord};
 use chip_net::Chip;
+use chip_whole::Standing;
 use text_line::Line;
 
 #[tactic(auto, unfolding(crate::specs::Report::cycles_text))]
@@ -238,8 +239,8 @@ fn put_row<O: Sink>(address: u32, row: &[u8; 16], out: &mut O) -> Result<(), Sin
 
 /// Writes the lines of a memory.
 fn put_memory<O: Sink>(chip: &Chip, bank: Bank, out: &mut O) -> Result<(), SinkFault>
-    ensures { Writes (O.written out.old) (O.written out.new) (O.faults out.old) (O.faults out.new)
-        (memory_text (base_of bank) (bytes_of chip.now.hub bank)) result }
+    ensures { ForEach ⟦<Chip as Standing>⟧.stands chip.now (λ s. Writes (O.written out.old) (O.written out.new) (O.faults out.old) (O.faults out.new)
+        (memory_text (base_of bank) (bytes_of s.hub bank)) result) }
 {
     let rows = bank.rows(chip);
     for number in 0..rows {
@@ -261,18 +262,18 @@ pub fn put_events<O: Sink>(events: &[Event], out: &mut O) -> Result<(), SinkFaul
 }
 
 /// Writes the lines of the harts.
-pub fn put_harts<O: Sink>(chip: &Chip, cycles: u32, out: &mut O) -> Result<(), SinkFault>
+pub fn put_harts<O: Sink>(first: &HartView, second: &HartView, out: &mut O) -> Result<(), SinkFault>
     ensures { Writes (O.written out.old) (O.written out.new) (O.faults out.old) (O.faults out.new)
-        (harts_text (shown chip.now cycles)) result }
+        (hart_lines_text 0 first.now ++ unless_parked second.now.phase (hart_lines_text 1 second.now)) result }
 {
-    put_hart(0, &chip.hart(0), out)?;
-    put_second_hart(&chip.hart(1), out)
+    put_hart(0, first, out)?;
+    put_second_hart(second, out)
 }
 
 /// Writes the lines of the memories, and the last line.
-pub fn put_tail<O: Sink>(chip: &Chip, cycles: u32, out: &mut O) -> Result<(), SinkFault>
-    ensures { Writes (O.written out.old) (O.written out.new) (O.faults out.old) (O.faults out.new)
-        (tail_text (shown chip.now cycles)) result }
+pub fn put_tail<O: Sink>(chip: &Chip, out: &mut O) -> Result<(), SinkFault>
+    ensures { ForEach ⟦<Chip as Standing>⟧.stands chip.now (λ s. Writes (O.written out.old) (O.written out.new) (O.faults out.old) (O.faults out.new)
+        (memory_text 0 s.hub.memory.imem ++ memory_text 2147483648 s.hub.memory.dmem ++ end_text) result) }
 {
     put_memory(chip, Bank::Imem, out)?;
     put_memory(chip, Bank::Dmem, out)?;

@@ -1,15 +1,17 @@
 //! A run and its report. The events are written while the run goes on.
-ghost use Rattle.std.specs.Prelude.{◌≡◌, ◌+◌, ◌^◌, ◌<◌, ◌≤◌, [], OnOk, length};
-ghost use Rattle.bench_report.specs.Going.{IsGoing};
-ghost use Rattle.bench_report.specs.Report.{events_text, head_text, report, shown};
+ghost use Rattle.std.specs.Prelude.{◌≡◌, ◌+◌, ◌^◌, ◌<◌, ◌≤◌, ◌++◌, [], OnOk, length};
+ghost use Rattle.bench_report.specs.Report.{boot_text, cycles_text, events_text, report, shown};
 ghost use Rattle.bench_shelf.specs.Sink.{Writes};
 ghost use Rattle.chip_base.specs.Settings.{values_of};
-ghost use Rattle.chip_net.specs.Chip.{after, start};
+ghost use Rattle.chip_hub.specs.Cycle.{boot_view};
+ghost use Rattle.chip_whole.specs.Chip.{Board, State, after, bare, start};
+ghost use Rattle.chip_whole.specs.Next.{next_events};
 
 use crate::report::{boot_line, cycles_line, put_events, put_harts, put_line, put_tail};
 use bench_shelf::{Sink, SinkFault};
 use chip_base::{Boot, Groups, Script, Setup, Steps};
 use chip_net::Chip;
+use chip_whole::Standing;
 use std::alloc::Global;
 use std::marker::Brand;
 use std::sync::ledger::{Blank, Ledger};
@@ -19,7 +21,6 @@ use std::thread::Threads;
 const STRETCH: u32 = 4_096;
 
 /// Steps the chip this many cycles, at most 4,096, and writes the events of these cycles.
-#[tactic(auto, using(bench_shelf::proofs::Writing::writes_nothing))]
 fn put_stretch<R: Threads + Sync, C: Ledger, O: Sink>(
     rt: &R,
     chip: &mut Chip,
@@ -28,10 +29,12 @@ fn put_stretch<R: Threads + Sync, C: Ledger, O: Sink>(
     out: &mut O,
 ) -> Result<(), SinkFault>
     requires cycles { cycles ≤ 4096 }
-    requires time { chip.old.cycle + cycles + 4096 < 2 ^ 64 }
-    ensures writes { Writes (O.written out.old) (O.written out.new) (O.faults out.old) (O.faults out.new)
-        (events_text (after (record chip.old { events = [] }) cycles).events) result }
-    ensures state { OnOk result (chip.new ≡ after (record chip.old { events = [] }) cycles) }
+    requires time { ⟦<Chip as Standing>⟧.now chip.old + cycles + 4096 < 2 ^ 64 }
+    ensures writes { (board : Board) (s : State) → ⟦<Chip as Standing>⟧.stands board chip.old s
+        → Writes (O.written out.old) (O.written out.new) (O.faults out.old) (O.faults out.new) (events_text (next_events board s cycles)) result }
+    ensures state { OnOk result ((board : Board) (s : State) → ⟦<Chip as Standing>⟧.stands board chip.old s
+        → ⟦<Chip as Standing>⟧.stands board chip.new (after board s cycles)) }
+    ensures now { OnOk result (⟦<Chip as Standing>⟧.now chip.new ≡ ⟦<Chip as Standing>⟧.now chip.old + cycles) }
 {
     match chip.run(rt, cycles, steps) {
         Ok(()) => put_events(chip.events(), out),
@@ -50,11 +53,11 @@ fn put_run<R: Threads + Sync, C: Ledger, O: Sink>(
     requires name { blank.name ≡ C.name }
     requires parts { blank.parts ≡ C.parts }
     requires one { 0 < blank.parts }
-    requires first { chip.old.cycle ≡ 0 }
-    requires none { chip.old.events ≡ [] }
-    ensures writes { Writes (O.written out.old) (O.written out.new) (O.faults out.old) (O.faults out.new)
-        (events_text (after chip.old cycles).events) result }
-    ensures state { OnOk result (IsGoing chip.old chip.new cycles) }
+    requires first { ⟦<Chip as Standing>⟧.now chip.old ≡ 0 }
+    ensures writes { (board : Board) (s : State) → ⟦<Chip as Standing>⟧.stands board chip.old s
+        → Writes (O.written out.old) (O.written out.new) (O.faults out.old) (O.faults out.new) (events_text (next_events board s cycles)) result }
+    ensures state { OnOk result ((board : Board) (s : State) → ⟦<Chip as Standing>⟧.stands board chip.old s
+        → ⟦<Chip as Standing>⟧.stands board chip.new (after board s cycles)) }
 {
     let mut steps = Steps::<C>::new(blank);
     for _ in 0..cycles / STRETCH {
@@ -70,11 +73,12 @@ fn put_head<R: Threads + Sync, O: Sink>(
     cycles: u32,
     out: &mut O,
 ) -> Result<(), SinkFault>
-    requires first { chip.old.cycle ≡ 0 }
-    requires none { chip.old.events ≡ [] }
-    ensures writes { Writes (O.written out.old) (O.written out.new) (O.faults out.old) (O.faults out.new)
-        (head_text (shown (after chip.old cycles) cycles)) result }
-    ensures state { OnOk result (IsGoing chip.old chip.new cycles) }
+    requires first { ⟦<Chip as Standing>⟧.now chip.old ≡ 0 }
+    ensures writes { (board : Board) (s : State) → ⟦<Chip as Standing>⟧.stands board chip.old s
+        → Writes (O.written out.old) (O.written out.new) (O.faults out.old) (O.faults out.new)
+        (cycles_text cycles ++ events_text (next_events board s cycles) ++ boot_text boot_view) result }
+    ensures state { OnOk result ((board : Board) (s : State) → ⟦<Chip as Standing>⟧.stands board chip.old s
+        → ⟦<Chip as Standing>⟧.stands board chip.new (after board s cycles)) }
 {
     put_line(&cycles_line(cycles), out)?;
     put_run::<R, Brand, O>(rt, chip, cycles, Blank::new(1), out)?;
@@ -88,18 +92,18 @@ fn report_chip<R: Threads + Sync, O: Sink>(
     cycles: u32,
     out: &mut O,
 ) -> Result<(), SinkFault>
-    requires first { chip.old.cycle ≡ 0 }
-    requires none { chip.old.events ≡ [] }
-    ensures { Writes (O.written out.old) (O.written out.new) (O.faults out.old) (O.faults out.new) (report (shown (after chip.old cycles) cycles)) result }
+    requires first { ⟦<Chip as Standing>⟧.now chip.old ≡ 0 }
+    ensures { (board : Board) (s : State) → ⟦<Chip as Standing>⟧.stands board chip.old s → s.events ≡ []
+        → Writes (O.written out.old) (O.written out.new) (O.faults out.old) (O.faults out.new) (report (shown (after board s cycles) cycles)) result }
 {
     put_head(rt, chip, cycles, out)?;
-    put_harts(chip, cycles, out)?;
-    put_tail(chip, cycles, out)
+    put_harts(&chip.hart(0), &chip.hart(1), out)?;
+    put_tail(chip, out)
 }
 
 /// Runs a chip this many cycles from power-on, with the bytes of a file in IMEM, and writes its report. How the lanes are grouped
 /// doesn't change it.
-#[tactic(auto, using(bench_shelf::proofs::Writing::writes_nothing), unfolding(chip_net::specs::Chip::start))]
+#[tactic(auto, using(bench_shelf::proofs::Writing::writes_nothing))]
 pub fn report_run<R: Threads + Sync, O: Sink>(
     rt: &R,
     alloc: Global,
@@ -112,7 +116,7 @@ pub fn report_run<R: Threads + Sync, O: Sink>(
 ) -> Result<(), SinkFault>
     requires { length image.items ≤ setup.now.imem }
     ensures { Writes (O.written out.old) (O.written out.new) (O.faults out.old) (O.faults out.new)
-        (report (shown (after (start (values_of setup.now) image.items script) cycles) cycles)) result }
+        (report (shown (after bare (start (values_of setup.now) image.items script) cycles) cycles)) result }
 {
     match Chip::new(alloc, setup, Boot::Raw, image, script, groups) {
         Ok(mut chip) => report_chip(rt, &mut chip, cycles, out),

@@ -1,21 +1,21 @@
 -- What the statuses of a call say.
-use Rattle.std.proofs.Common.{◌≡◌, ◌≢◌, ◌<◌, ℕ, arith, inl, inr, Bool, true, false, List, length, Option, Some, None, Result, Ok, Err, refl, ap, sym, subst, ◌∙◌}
+use Rattle.std.proofs.Common.{◌≡◌, ◌≢◌, ℕ, arith, inl, inr, Bool, true, false, List, Option, Some, None, Result, Ok, Err, refl, ap, sym, subst, ◌∙◌}
 use Rattle.std.specs.Prelude.{◌⊎◌, ◌==◌}
 use Rattle.std.proofs.lemmas.Bool.Decides.{Decides-eqb}
 use Rattle.bench_inputs.specs.Inputs.{image_reading, settings_reading, script_reading}
 use Rattle.bench_inputs.proofs.Ends.{Any, HasStatus, image_ends, image_large, script_ends, settings_ends}
-use Rattle.bench_plan.specs.Answers.{Done, done, ended, refused}
+use Rattle.bench_plan.specs.Answers.{Done, ended, refused}
 use Rattle.bench_plan.specs.Calls.{Call, Tells, WritesText}
 use Rattle.bench_plan.specs.Ends.{Ends}
 use Rattle.bench_plan.specs.Keeps.{Keeps}
-use Rattle.bench_plan.specs.Readings.{Fault, Reading, followed}
+use Rattle.bench_plan.specs.Readings.{Fault, Reading}
 use Rattle.bench_plan.specs.Steps.{Comes}
 use Rattle.bench_plan.proofs.Ends.{comes_ends, comes_split, ends_then, ends_weaker, keeps_refuses, keeps_still}
 use Rattle.bench_plan.proofs.Keeping.{answers_from}
 use Rattle.bench_shelf.specs.Held.{Held}
 use Rattle.bench_words.specs.Jobs.{Job}
 use Rattle.chip_base.specs.Settings.{Values}
-use Rattle.chip_net.specs.Chip.{State}
+use Rattle.chip_whole.specs.Chip.{State}
 use Rattle.bench_top.specs.Plans.{image_step, plan_of, report_step, run_plan, seat_reading, settings_step, usage_fault}
 use Rattle.bench_top.specs.Statuses.{IsStatus, IsTooLarge}
 

@@ -7,7 +7,7 @@ use Rattle.bench_report.specs.Report.{report, shown}
 use Rattle.bench_words.specs.Jobs.{Job}
 use Rattle.chip_base.specs.Settings.{Values, values_of}
 use Rattle.chip_base.specs.declared.script.Script.{Script}
-use Rattle.chip_net.specs.Chip.{State, after, start}
+use Rattle.chip_whole.specs.Chip.{State, after, bare, start}
 use Rattle.soc_words.specs.Text.{line}
 use Rattle.bench_top.specs.declared.deed.Deed.{Deed}
 use Rattle.bench_top.specs.declared.deed.Deed.TheVariants.{Line, Report, Write}
@@ -34,7 +34,7 @@ seat_reading job = followed (settings_reading job.chip) (settings_step job)
 
 -- the report of a chip after this many cycles
 abbrev pub report_done : State → ℕ → Done
-report_done chip cycles = record { text = report (shown (after chip cycles) cycles); out = None }
+report_done chip cycles = record { text = report (shown (after bare chip cycles) cycles); out = None }
 
 abbrev pub report_step : ℕ → State → Reading Done
 report_step cycles chip = gives (report_done chip cycles)

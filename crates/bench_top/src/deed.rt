@@ -16,7 +16,9 @@ use std::alloc::Global;
 #[derive(Drop)]
 pub enum Deed<'a> {
     /// A line is written.
-    Line { text: Vec<u8> },
+    Line {
+        text: Vec<u8>,
+    },
     /// A file of this name is made, and then a line is written.
     Write {
         name: &'a str,

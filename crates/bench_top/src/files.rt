@@ -11,11 +11,7 @@ use bench_words::RunJob;
 use std::alloc::Global;
 
 /// Reads what a chip begins with from the files of a job, in their order.
-pub fn read_seat<S: Shelf>(
-    alloc: Global,
-    job: &RunJob<'_>,
-    shelf: &mut S,
-) -> Result<Seat, Stop>
+pub fn read_seat<S: Shelf>(alloc: Global, job: &RunJob<'_>, shelf: &mut S) -> Result<Seat, Stop>
     ensures { Reads (S.held shelf.old) (S.held shelf.new) (seat_reading (job_view job.now)) (mapped seat_view result) }
 {
     let setup = read_settings(alloc, job.chip, shelf)?;

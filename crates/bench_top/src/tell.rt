@@ -29,9 +29,7 @@ fn tell_run<R: Threads + Sync, O: Sink>(
         image,
         script,
     } = seat;
-    said(report_run(
-        rt, alloc, &setup, image, script, groups, cycles, out,
-    ))
+    said(report_run(rt, alloc, &setup, image, script, groups, cycles, out))
 }
 
 /// Does a deed and tells it, and gives the status.
@@ -43,13 +41,13 @@ pub fn tell<R: Threads + Sync, S: Shelf, O: Sink>(
     out: &mut O,
 ) -> u8
     ensures { Tells (done (done_of deed.entry)) (record {
-        before = S.held shelf.old;
-        after = S.held shelf.new;
-        written = O.written out.old;
-        written_after = O.written out.new;
-        puts = O.faults out.old;
-        puts_after = O.faults out.new;
-        status = result;
+      before = S.held shelf.old;
+      after = S.held shelf.new;
+      written = O.written out.old;
+      written_after = O.written out.new;
+      puts = O.faults out.old;
+      puts_after = O.faults out.new;
+      status = result;
     }) }
 {
     match deed {

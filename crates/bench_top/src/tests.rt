@@ -1,6 +1,5 @@
 //! Runs of the top call over files and text in memory.
 
-use crate::top::bench;
 use crate::programs::{
     CLEAR_PENDING, CLEARED_PENDING, COPIED_NOTHING, COPIED_TWO, COPY_NOWHERE, COPY_TWO, EBREAK,
     EBREAK_START, EBREAK_TRAPS, EMPTY_START, EMPTY_TRAPS, HEAR, HEAR_HEARD, HEAR_QUICK,
@@ -9,6 +8,7 @@ use crate::programs::{
     SENT_BY_UART1, SLEEP_TO_32, SLEEP_TO_32_ASLEEP, SLEEP_TO_32_AWAKE, START_SECOND,
     START_SECOND_RUN, STORE_FIVE, STORE_FIVE_RUN, STORE_FIVE_START, VECTORED, VECTORED_RUN,
 };
+use crate::top::bench;
 use bench_shelf::{MemShelf, MemSink};
 use std::alloc::{AllocError, Global};
 use std::thread::Threads;

@@ -23,13 +23,13 @@ fn perform<R: Threads + Sync, S: Shelf, O: Sink>(
     out: &mut O,
 ) -> u8
     ensures { Keeps (plan_of (job_of (map string_bytes words.now))) (record {
-        before = S.held shelf.old;
-        after = S.held shelf.new;
-        written = O.written out.old;
-        written_after = O.written out.new;
-        puts = O.faults out.old;
-        puts_after = O.faults out.new;
-        status = result;
+      before = S.held shelf.old;
+      after = S.held shelf.new;
+      written = O.written out.old;
+      written_after = O.written out.new;
+      puts = O.faults out.old;
+      puts_after = O.faults out.new;
+      status = result;
     }) }
 {
     match decide(alloc, words, shelf) {
@@ -64,13 +64,13 @@ pub fn bench<R: Threads + Sync, S: Shelf, O: Sink>(
 ) -> u8
     // the answer to what the words ask for, over any shelf and sink
     ensures keeps { Keeps (plan_of (job_of (map string_bytes words.now.items))) (record {
-        before = S.held shelf.old;
-        after = S.held shelf.new;
-        written = O.written out.old;
-        written_after = O.written out.new;
-        puts = O.faults out.old;
-        puts_after = O.faults out.new;
-        status = result;
+      before = S.held shelf.old;
+      after = S.held shelf.new;
+      written = O.written out.old;
+      written_after = O.written out.new;
+      puts = O.faults out.old;
+      puts_after = O.faults out.new;
+      status = result;
     }) }
 
     // each status has its cause
@@ -78,22 +78,22 @@ pub fn bench<R: Threads + Sync, S: Shelf, O: Sink>(
     ensures usage { result ≡ 2 → job_of (map string_bytes words.now.items) ≡ None }
     ensures no_job { job_of (map string_bytes words.now.items) ≡ None → ((S.held shelf.new).read_faults ≡ (S.held shelf.old).read_faults)
         × Tells (refused usage_fault) (record {
-        before = S.held shelf.old;
-        after = S.held shelf.new;
-        written = O.written out.old;
-        written_after = O.written out.new;
-        puts = O.faults out.old;
-        puts_after = O.faults out.new;
-        status = result;
-    }) }
+          before = S.held shelf.old;
+          after = S.held shelf.new;
+          written = O.written out.old;
+          written_after = O.written out.new;
+          puts = O.faults out.old;
+          puts_after = O.faults out.new;
+          status = result;
+        }) }
     ensures too_large { result ≡ 4 → IsTooLarge (job_of (map string_bytes words.now.items)) (record {
-        before = S.held shelf.old;
-        after = S.held shelf.new;
-        written = O.written out.old;
-        written_after = O.written out.new;
-        puts = O.faults out.old;
-        puts_after = O.faults out.new;
-        status = result;
+      before = S.held shelf.old;
+      after = S.held shelf.new;
+      written = O.written out.old;
+      written_after = O.written out.new;
+      puts = O.faults out.old;
+      puts_after = O.faults out.new;
+      status = result;
     }) }
 
     // no file is changed

@@ -1,4 +1,5 @@
 pub mod Bits
+pub mod Entries
 pub mod Given
 pub mod Groups
 pub mod Messages

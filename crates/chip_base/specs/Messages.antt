@@ -1,15 +1,22 @@
 -- What the messages between a front and its unit say, and what they carry as counts: an entry down and a credit up, a Reset down and its
 -- answer up.
-use Rattle.std.specs.Prelude.{ℕ, ◌==◌, true, false, Option, None, Some, if◌then◌else◌}
+use Rattle.std.specs.Prelude.{ℕ, ◌==◌, Bool, true, false, Option, None, Some, if◌then◌else◌}
 use Rattle.chip_base.specs.declared.message.Down.{Down}
 use Rattle.chip_base.specs.declared.message.Down.TheVariants.{Reset, Set}
 use Rattle.chip_base.specs.declared.message.Up.{Up}
 
--- how many entries a message takes to a unit whose entries go to the register at offset 4
+-- how many entries a message takes to a unit, by which of its registers take entries
+abbrev pub entry_in : (ℕ → Bool) → Option Down → ℕ
+entry_in takes None = 0
+entry_in takes (Some Reset) = 0
+entry_in takes (Some (Set reg word)) = if takes reg then 1 else 0
+
+-- a unit whose entries go to the register at offset 4
+abbrev pub at_data : ℕ → Bool
+at_data reg = reg == 4
+
 abbrev pub data_in : Option Down → ℕ
-data_in None = 0
-data_in (Some Reset) = 0
-data_in (Some (Set reg word)) = if reg == 4 then 1 else 0
+data_in down = entry_in at_data down
 
 -- how many credits a message gives back
 abbrev pub credit_in : Option Up → ℕ

@@ -4,7 +4,7 @@ use Rattle.std.specs.Prelude.{◌==◌, get_or, ◌&&◌, not, if◌then◌else�
 use Rattle.std.proofs.lemmas.Bool.Decides.{nat_tests}
 use Rattle.chip_base.specs.declared.message.Down.{Down}
 use Rattle.chip_base.specs.declared.message.Up.{Up}
-use Rattle.chip_base.specs.Messages.{data_in, done_in, reset_in}
+use Rattle.chip_base.specs.Messages.{at_data, done_in, entry_in, reset_in}
 use Rattle.soc_bus.specs.Map.{admitted}
 use Rattle.soc_bus.specs.Memory.{Memories, store_of}
 use Rattle.soc_bus.specs.Rotation.{granted}
@@ -117,16 +117,16 @@ unfolding hub_cycle
 cycle_fronts Q h s now ups = served_fronts Q h (turn1 (turn0 (timed (heard s ups)) now) now)
 
 -- what an access does to a front, and the message that it sends down
-pub record ServesPort (old : Port) (down : Option Down) (new : Port) : Type 0 where
-  pub credits : SpendsCredits old down new
+pub record ServesPort (takes : ℕ → Bool) (old : Port) (down : Option Down) (new : Port) : Type 0 where
+  pub credits : SpendsCredits takes old down new
   -- a closed front sends no entry
-  pub closed : is_open_of old ≡ false → data_in down ≡ 0
+  pub closed : is_open_of old ≡ false → entry_in takes down ≡ 0
   pub no_reset : reset_in down ≡ 0
 
-serves_nothing : (p : Port) → ServesPort p None p
-serves_nothing p = record { credits = record { credits = omega arith; owed = refl }; closed = λ c. refl; no_reset = refl }
+serves_nothing : (takes : ℕ → Bool) (p : Port) → ServesPort takes p None p
+serves_nothing takes p = record { credits = record { credits = omega arith; owed = refl }; closed = λ c. refl; no_reset = refl }
 
-uart_load : (p : Port) (reg : ℕ) → ServesPort p None (loaded p reg)
+uart_load : (p : Port) (reg : ℕ) → ServesPort at_data p None (loaded p reg)
 uart_load p reg = record { credits = loads p reg; closed = λ c. refl; no_reset = refl }
 
 uart_no_reset : (p : Port) (reg word : ℕ) (open_now control empty : Bool) → is_open_of p ≡ open_now → eqb reg 0 ≡ control → eqb p.credits 0 ≡ empty
@@ -136,7 +136,7 @@ uart_no_reset p reg word true true d e f g = rw (e, f) refl
 uart_no_reset p reg word true false true e f g = rw (e, f, g) refl
 uart_no_reset p reg word true false false e f g = rw (e, f, g) refl
 
-uart_store : (p : Port) (reg word : ℕ) → ServesPort p (store_sent p reg word) (stored p reg word)
+uart_store : (p : Port) (reg word : ℕ) → ServesPort at_data p (store_sent p reg word) (stored p reg word)
 uart_store p reg word = record {
   credits = spends p reg word;
   closed = λ c. rw c refl;
@@ -144,7 +144,7 @@ uart_store p reg word = record {
 }
 
 -- what an access does to the front that it reaches
-uart_access : (p : Port) (r : Request) (reg : ℕ) (store : Option ℕ) → ServesPort p (at_uart p r reg store).down (at_uart p r reg store).front
+uart_access : (p : Port) (r : Request) (reg : ℕ) (store : Option ℕ) → ServesPort at_data p (at_uart p r reg store).down (at_uart p r reg store).front
 uart_access p r reg None = uart_load p reg
 uart_access p r reg (Some value) = uart_store p reg value
 
@@ -156,20 +156,20 @@ by_unit Serves old at nothing served false = nothing
 
 -- what a cycle does to the front of uart0, after the arrivals
 pub serves_uart0 : (s : State) (now : ℕ) (ups : List (Option Up))
-    → ServesPort (heard s ups).fronts.uart0 (get_or (hub_cycle s now ups).downs 0 None) (hub_cycle s now ups).hub.fronts.uart0
-serves_uart0 = cycle_fronts (λ old new downs. ServesPort old.uart0 (get_or downs 0 None) new.uart0) (record {
-  quiet = λ f. serves_nothing f.uart0;
+    → ServesPort at_data (heard s ups).fronts.uart0 (get_or (hub_cycle s now ups).downs 0 None) (hub_cycle s now ups).hub.fronts.uart0
+serves_uart0 = cycle_fronts (λ old new downs. ServesPort at_data old.uart0 (get_or downs 0 None) new.uart0) (record {
+  quiet = λ f. serves_nothing at_data f.uart0;
   device = λ s r unit reg.
-      by_unit ServesPort s.fronts.uart0 (at_uart s.fronts.uart0 r reg r.store) (serves_nothing _) (uart_access _ r reg r.store) (unit == 1);
+      by_unit (ServesPort at_data) s.fronts.uart0 (at_uart s.fronts.uart0 r reg r.store) (serves_nothing at_data _) (uart_access _ r reg r.store) (unit == 1);
 })
 
 -- what a cycle does to the front of uart1, after the arrivals
 pub serves_uart1 : (s : State) (now : ℕ) (ups : List (Option Up))
-    → ServesPort (heard s ups).fronts.uart1 (get_or (hub_cycle s now ups).downs 1 None) (hub_cycle s now ups).hub.fronts.uart1
-serves_uart1 = cycle_fronts (λ old new downs. ServesPort old.uart1 (get_or downs 1 None) new.uart1) (record {
-  quiet = λ f. serves_nothing f.uart1;
+    → ServesPort at_data (heard s ups).fronts.uart1 (get_or (hub_cycle s now ups).downs 1 None) (hub_cycle s now ups).hub.fronts.uart1
+serves_uart1 = cycle_fronts (λ old new downs. ServesPort at_data old.uart1 (get_or downs 1 None) new.uart1) (record {
+  quiet = λ f. serves_nothing at_data f.uart1;
   device = λ s r unit reg.
-      by_unit ServesPort s.fronts.uart1 (at_uart s.fronts.uart1 r reg r.store) (serves_nothing _) (uart_access _ r reg r.store) (unit == 2);
+      by_unit (ServesPort at_data) s.fronts.uart1 (at_uart s.fronts.uart1 r reg r.store) (serves_nothing at_data _) (uart_access _ r reg r.store) (unit == 2);
 })
 
 -- what an access does to the answers that a front without entries waits for: nothing, and it sends no Reset

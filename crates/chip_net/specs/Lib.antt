@@ -1,4 +1,2 @@
-pub mod Chip
-pub mod Credits
-pub mod Order
-pub mod Sent
+pub mod Links
+pub mod Units

@@ -5,5 +5,6 @@ pub mod chip;
 mod links;
 #[cfg(test)]
 mod tests;
+mod units;
 
 pub use chip::Chip;

@@ -1,7 +1,7 @@
 //! The links between a front in the hub and its unit.
 ghost use Rattle.std.specs.Prelude.{◌≡◌, ◌<◌, ◌+◌, ◌^◌, suc, IfOk};
 ghost use Rattle.chip_base.specs.Settings.{values_of};
-ghost use Rattle.chip_net.specs.Chip.{delay_of};
+ghost use Rattle.chip_whole.specs.Chip.{delay_of};
 ghost use Rattle.delay_line.specs.Queue.{empty_line};
 ghost use Rattle.soc_words.specs.Line.{first_of, moved};
 
@@ -19,7 +19,7 @@ pub(crate) struct Links {
 
 impl Model for Links {
     ghost use Rattle.std.specs.Prelude.{◌≡◌};
-    ghost use Rattle.chip_net.specs.Chip.{LinkState};
+    ghost use Rattle.chip_net.specs.Links.{LinkState};
 
     ghost Value = { LinkState };
 

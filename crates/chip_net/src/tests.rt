@@ -6,7 +6,9 @@ use chip_base::{
     Boot, BootView, Event, EventKind, Groups, NoMemory, PhaseWord, Pins, Script, Setup, Steps,
     Steps0,
 };
+use chip_whole::Standing;
 use std::marker::Brand;
+use std::process::Abort;
 use std::sync::ledger::{Blank, Ledger};
 use std::test::Fail;
 use std::thread::Threads;
@@ -19,7 +21,7 @@ const PROGRAM: [u8; 24] = [
 
 /// The chip of the standard settings, with the program from address 0 on.
 fn chip(rt: &HostRuntime) -> Result<Chip, Fail>
-    ensures { IfOk result (λ chip. chip.cycle ≡ 0) }
+    ensures { IfOk result (λ chip. ⟦<Chip as Standing>⟧.now chip ≡ 0) }
 {
     let alloc = rt.alloc();
     let image = Vec::from_slice(alloc, &PROGRAM)?;
@@ -43,8 +45,8 @@ fn run_counted<R: Threads + Sync, C: Ledger>(
     requires parts { blank.parts ≡ C.parts }
     requires one { 0 < blank.parts }
     requires cycles { cycles ≤ 4096 }
-    requires time { chip.old.cycle + cycles + 4096 < 2 ^ 64 }
-    ensures { OnOk result (chip.new.cycle ≡ chip.old.cycle + cycles) }
+    requires time { ⟦<Chip as Standing>⟧.now chip.old + cycles + 4096 < 2 ^ 64 }
+    ensures { OnOk result (⟦<Chip as Standing>⟧.now chip.new ≡ ⟦<Chip as Standing>⟧.now chip.old + cycles) }
 {
     let mut steps = Steps::<C>::new(blank);
     chip.run(rt, cycles, &mut steps)
@@ -52,36 +54,42 @@ fn run_counted<R: Threads + Sync, C: Ledger>(
 
 fn run<R: Threads + Sync>(rt: &R, chip: &mut Chip, cycles: u32) -> Result<(), NoMemory>
     requires cycles { cycles ≤ 4096 }
-    requires time { chip.old.cycle + cycles + 4096 < 2 ^ 64 }
-    ensures { OnOk result (chip.new.cycle ≡ chip.old.cycle + cycles) }
+    requires time { ⟦<Chip as Standing>⟧.now chip.old + cycles + 4096 < 2 ^ 64 }
+    ensures { OnOk result (⟦<Chip as Standing>⟧.now chip.new ≡ ⟦<Chip as Standing>⟧.now chip.old + cycles) }
 {
     run_counted::<R, Brand>(rt, chip, cycles, Blank::new(1))
 }
 
 /// The byte is stored in cycle 11, comes to the unit in cycle 43, and has left after the twenty cycles of its frame.
-#[test]
-fn byte_in_time(rt: HostRuntime) -> Result<(), Fail> {
-    let mut chip = chip(&rt)?;
+fn sees_byte<R: Abort + Threads + Sync>(rt: &R, chip: &mut Chip) -> Result<(), Fail>
+    requires { ⟦<Chip as Standing>⟧.now chip.old ≡ 0 }
+{
     let wanted = Event {
         cycle: 62,
         unit: 1,
         kind: EventKind::Tx,
         value: 0x41,
     };
-    run(&rt, &mut chip, 62)?;
+    run(rt, chip, 62)?;
     assert!(rt; chip.events().is_empty());
-    run(&rt, &mut chip, 1)?;
+    run(rt, chip, 1)?;
     assert_eq!(rt; chip.events(), [wanted].as_slice());
     assert_eq!(rt; chip.now(), 63);
-    run(&rt, &mut chip, 1)?;
+    run(rt, chip, 1)?;
     assert!(rt; chip.events().is_empty());
     Ok(())
 }
 
 #[test]
-fn views(rt: HostRuntime) -> Result<(), Fail> {
+fn byte_in_time(rt: HostRuntime) -> Result<(), Fail> {
     let mut chip = chip(&rt)?;
-    run(&rt, &mut chip, 63)?;
+    sees_byte(&rt, &mut chip)
+}
+
+fn sees_views<R: Abort + Threads + Sync>(rt: &R, chip: &mut Chip) -> Result<(), Fail>
+    requires { ⟦<Chip as Standing>⟧.now chip.old ≡ 0 }
+{
+    run(rt, chip, 63)?;
     assert_eq!(rt; chip.events().len(), 1);
     let hart = chip.hart(0);
     assert_eq!(rt; hart.phase, PhaseWord::Run);
@@ -98,4 +106,10 @@ fn views(rt: HostRuntime) -> Result<(), Fail> {
     // mhartid
     assert_eq!(rt; chip.csr(1, 0xf14), Some(1));
     Ok(())
+}
+
+#[test]
+fn views(rt: HostRuntime) -> Result<(), Fail> {
+    let mut chip = chip(&rt)?;
+    sees_views(&rt, &mut chip)
 }

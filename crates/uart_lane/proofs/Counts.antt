@@ -96,17 +96,17 @@ worked-done s now = received-done (sent (begun s) now) now ∙ sent-done (begun 
 pub keeps_count : (s : State) (now : ℕ) (down : Option Down) → KeepsCount s down (unit_cycle s now down).unit (unit_cycle s now down).up
 unfolding unit_cycle
 keeps_count s now None = record {
-  bytes = λ r h. worked-count s now ∙ omega arith;
+  entries = λ r h. worked-count s now ∙ omega arith;
   after_reset = λ r. absurd (omega arith);
   answers = worked-done s now;
 }
 keeps_count s now (Some Reset) = record {
-  bytes = λ r h. absurd (omega arith);
+  entries = λ r h. absurd (omega arith);
   after_reset = λ r. refl;
   answers = refl;
 }
 keeps_count s now (Some (Set reg word)) = record {
-  bytes = λ r h. worked-count (set_in s reg word) now ∙ set-count s reg word h;
+  entries = λ r h. worked-count (set_in s reg word) now ∙ set-count s reg word h;
   after_reset = λ r. absurd (omega arith);
   answers = worked-done (set_in s reg word) now;
 }

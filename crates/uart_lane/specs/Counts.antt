@@ -4,7 +4,8 @@ use Rattle.chip_base.specs.declared.event.Event.{Event}
 use Rattle.chip_base.specs.declared.message.Down.{Down}
 use Rattle.chip_base.specs.declared.message.Down.TheVariants.{Reset, Set}
 use Rattle.chip_base.specs.declared.message.Up.{Up}
-use Rattle.chip_base.specs.Messages.{data_in, credit_in, reset_in, done_in}
+use Rattle.chip_base.specs.Entries.{CountsEntries}
+use Rattle.chip_base.specs.Messages.{at_data, data_in, reset_in}
 use Rattle.uart_lane.specs.State.{State}
 
 -- the byte that a message brings, if it brings one
@@ -24,10 +25,6 @@ pub record KeepsOrder (old : State) (down : Option Down) (new : State) (event : 
   -- a Reset drops them all, and tells of none
   pub after_reset : reset_in down ≡ 1 → bytes_out event ++ new.fifo ≡ []
 
--- a byte that came is counted in the unit until the cycle that gives its credit back
-pub record KeepsCount (old : State) (down : Option Down) (new : State) (up : Option Up) : Type 0 where
-  pub bytes : reset_in down ≡ 0 → length old.fifo + data_in down ≤ 16 → length new.fifo + credit_in up ≡ length old.fifo + data_in down
-  -- a Reset leaves no byte, and gives no credit
-  pub after_reset : reset_in down ≡ 1 → length new.fifo + credit_in up ≡ 0
-  -- exactly a Reset is answered, in its own cycle
-  pub answers : done_in up ≡ reset_in down
+-- what a cycle does to the number of bytes in the unit
+abbrev pub KeepsCount : State → Option Down → State → Option Up → Type 0
+KeepsCount old down new up = CountsEntries at_data (length old.fifo) down (length new.fifo) up

@@ -3,6 +3,7 @@ use Rattle.std.proofs.Common.{◌≡◌, ◌≤◌, ◌<◌, ℕ, ◌+◌, min, 
 use Rattle.std.proofs.lemmas.Bool.{true≢false, false≢true}
 use Rattle.std.proofs.lemmas.Bool.Decides.{nat_tests}
 use Rattle.chip_base.specs.declared.message.Up.{Up}
+use Rattle.chip_base.specs.Messages.{at_data}
 use Rattle.unit_fronts.specs.Port.{Port, is_open_of, credited, received_by, arrived}
 use Rattle.unit_fronts.specs.UartFront.{loaded, stored, store_sent}
 use Rattle.unit_fronts.specs.Counts.{SpendsCredits, HearsUnit}
@@ -14,7 +15,7 @@ not_zero : (a : ℕ) → eqb a 0 ≡ false → 0 < a
 not_zero a h = grind (arith, nat_tests)
 
 spends_by : (s : Port) (reg word : ℕ) (open_now control empty : Bool) → is_open_of s ≡ open_now → eqb reg 0 ≡ control → eqb s.credits 0 ≡ empty
-    → SpendsCredits s (store_sent s reg word) (stored s reg word)
+    → SpendsCredits at_data s (store_sent s reg word) (stored s reg word)
 spends_by s reg word false b d p q r = rw p record { credits = omega arith; owed = refl }
 spends_by s reg word true true d p q r = rw (p, q) record { credits = omega arith; owed = refl }
 spends_by s reg word true false true p q r =
@@ -25,7 +26,7 @@ spends_by s reg word true false false p q r =
     rw (p, q, r) record { credits = omega arith; owed = refl }
 
 -- a store uses a credit exactly where it sends an entry
-pub spends : (s : Port) (reg word : ℕ) → SpendsCredits s (store_sent s reg word) (stored s reg word)
+pub spends : (s : Port) (reg word : ℕ) → SpendsCredits at_data s (store_sent s reg word) (stored s reg word)
 spends s reg word = spends_by s reg word _ _ _ refl refl refl
 
 received-credits : (s : Port) (has : Bool) (word : ℕ) → (received_by s has word).credits ≡ s.credits
@@ -72,11 +73,11 @@ hears_by s up false false p q h = rw (p, q) record {
 pub hears : (s : Port) (up : Up) → s.credits ≤ 16 → HearsUnit s up (arrived s up)
 hears s up h = hears_by s up _ _ refl refl h
 
-loads_by : (s : Port) (reg : ℕ) (open_now control : Bool) → is_open_of s ≡ open_now → eqb reg 0 ≡ control → SpendsCredits s None (loaded s reg)
+loads_by : (s : Port) (reg : ℕ) (open_now control : Bool) → is_open_of s ≡ open_now → eqb reg 0 ≡ control → SpendsCredits at_data s None (loaded s reg)
 loads_by s reg false b p q = rw p record { credits = omega arith; owed = refl }
 loads_by s reg true true p q = rw (p, q) record { credits = omega arith; owed = refl }
 loads_by s reg true false p q = rw (p, q) record { credits = omega arith; owed = refl }
 
 -- a load changes neither the credits nor the answers that are owed
-pub loads : (s : Port) (reg : ℕ) → SpendsCredits s None (loaded s reg)
+pub loads : (s : Port) (reg : ℕ) → SpendsCredits at_data s None (loaded s reg)
 loads s reg = loads_by s reg _ _ refl refl

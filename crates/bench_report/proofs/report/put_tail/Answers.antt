@@ -3,16 +3,16 @@ use Rattle.bench_report.specs.Report.{memory_text, end_text}
 use Rattle.bench_report.proofs.report.put_tail.Goals as goal
 
 pub returns-in_err-put_memory : goal.returns-in_err-put_memory
-returns-in_err-put_memory g c =
+returns-in_err-put_memory g c board s h =
     writes_exit end_text _ c.from_residual.ensures.1
-    (writes_stop (memory_text 2147483648 c.args.chip.now.hub.memory.dmem) c.in_err-put_memory.ensures)
+    (writes_stop (memory_text 2147483648 s.hub.memory.dmem) (c.in_err-put_memory.ensures board s h))
 
 pub returns-in_err-put_memory-2 : goal.returns-in_err-put_memory-2
-returns-in_err-put_memory-2 g c =
+returns-in_err-put_memory-2 g c board s h =
     writes_exit end_text _ c.from_residual-in_err-put_memory-2.ensures.1
-    (writes_then _ c.in_ok-put_memory.ensures c.in_err-put_memory-2.ensures)
+    (writes_then _ (c.in_ok-put_memory.ensures board s h) (c.in_err-put_memory-2.ensures board s h))
 
 pub returns : goal.returns
-returns g c =
-    writes_then _ (writes_then _ c.in_ok-put_memory.ensures c.in_ok-put_memory-2.ensures)
+returns g c board s h =
+    writes_then _ (writes_then _ (c.in_ok-put_memory.ensures board s h) (c.in_ok-put_memory-2.ensures board s h))
     (rw c.end_line.ensures at c.put_line.ensures)

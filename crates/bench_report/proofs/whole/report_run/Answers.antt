@@ -1,10 +1,8 @@
-use Rattle.std.proofs.Common.{ap, sym}
-use Rattle.chip_net.specs.Chip.{State, start}
+use Rattle.chip_base.specs.Settings.{values_of}
+use Rattle.chip_whole.specs.Chip.{bare, start}
+use Rattle.chip_whole.proofs.Runs.{start_events}
 use Rattle.bench_report.proofs.whole.report_run.Goals as goal
 
-pub report_chip-requires-clause-none : goal.report_chip-requires-clause-none
-unfolding start
-report_chip-requires-clause-none g c = λ κs lives. ap (λ (s : State). s.events) c.in-Ok.ensures.chip
-
 pub returns-in-Ok : goal.returns-in-Ok
-returns-in-Ok g c = rw (sym c.in-Ok.ensures.chip) c.report_chip.ensures
+returns-in-Ok g c =
+    c.report_chip.ensures bare (start (values_of c.args.setup.now) c.args.image.items c.args.script) (c.in-Ok.ensures.chip bare) (start_events (values_of c.args.setup.now) c.args.image.items c.args.script)

@@ -1,4 +1,3 @@
-use Rattle.bench_words.specs.Jobs.{job_view}
 use Rattle.bench_plan.proofs.Readings.{reads_then, reads_exit_as, reads_none}
 use Rattle.bench_top.specs.Plans.{done_of, report_step}
 use Rattle.bench_top.proofs.deed.decide_run.Goals as goal

@@ -1,4 +1,3 @@
-use Rattle.std.proofs.Common.{List, ℕ}
 use Rattle.bench_words.specs.Jobs.{job_view}
 use Rattle.chip_base.specs.Settings.{values_of}
 use Rattle.bench_plan.proofs.Readings.{reads_then, reads_exit_as, reads_none}

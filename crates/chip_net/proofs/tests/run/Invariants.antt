@@ -1,4 +1,3 @@
-use Rattle.std.specs.Prelude.{◌≡◌}
 use Rattle.chip_net.proofs.tests.run.Given as goal
 
 abbrev pub ghosts-run_counted : goal.ghosts-run_counted

@@ -1,15 +1,9 @@
-use Rattle.chip_net.proofs.Holds.{credits_of_setup, events_ordered, none_lost_of_setup, sent_of_setup}
+use Rattle.std.proofs.Common.{ap}
 use Rattle.chip_base.specs.Settings.{values_of}
+use Rattle.chip_whole.proofs.Keeping.{start_stands}
 use Rattle.chip_net.proofs.chip.Chip.new.Goals as goal
 
-pub returns-clause-credits : goal.returns-clause-credits
-returns-clause-credits c = credits_of_setup c.args.setup.now c.args.image.items c.args.script
-
-pub returns-clause-order : goal.returns-clause-order
-returns-clause-order c = events_ordered (values_of c.args.setup.now) c.args.image.items c.args.script
-
-pub returns-clause-none_lost : goal.returns-clause-none_lost
-returns-clause-none_lost c = none_lost_of_setup c.args.setup.now c.args.image.items c.args.script
-
-pub returns-clause-sent : goal.returns-clause-sent
-returns-clause-sent c = sent_of_setup c.args.setup.now c.args.image.items c.args.script
+pub returns-clause-chip : goal.returns-clause-chip
+returns-clause-chip c board =
+    start_stands board (values_of c.args.setup.now) c.args.image.items c.args.script _ _ _ (rw c.deref.ensures.value at c.in_ok-hub.ensures)
+    (ap (λ u. u.units) (rw c.deref-2.ensures.value at c.in_ok-units.ensures)) (ap (λ u. u.cycle) c.in_ok-units.ensures)

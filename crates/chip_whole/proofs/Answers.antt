@@ -11,8 +11,8 @@ use Rattle.chip_base.specs.Messages.{reset_in, done_in}
 use Rattle.chip_hub.proofs.Fronts.{HearsAnswers, ServesAnswers}
 use Rattle.delay_line.specs.Queue.{empty_line}
 use Rattle.soc_words.specs.Line.{first_of, moved}
-use Rattle.chip_net.specs.Credits.{AnswersComing, count_on}
-use Rattle.chip_net.proofs.Credits.{count_empty, count_more}
+use Rattle.chip_whole.specs.Credits.{AnswersComing, count_on}
+use Rattle.chip_whole.proofs.Credits.{count_empty, count_more}
 
 -- a cycle of the front, its two lines and its unit
 pub answers_keep : (owed heard after : ℕ) (downs : List (Option Down)) (ups : List (Option Up)) (down : Option Down) (up : Option Up)

@@ -1,5 +1,5 @@
 -- The events of a cycle, and of all cycles.
-use Rattle.std.proofs.Common.{◌≡◌, ◌≤◌, ◌<◌, ℕ, suc, ◌⊎◌, inl, inr, Bool, true, false, eqb, ltb, length, List, [], ◌∷◌, ◌++◌, Option, None, Some, refl, subst, ◌∙◌, arith, append-nil}
+use Rattle.std.proofs.Common.{◌≡◌, ◌≤◌, ◌<◌, ℕ, suc, ◌⊎◌, inl, inr, Bool, true, false, eqb, ltb, length, List, [], ◌∷◌, ◌++◌, Option, None, Some, refl, subst, ◌∙◌, arith, append-nil, append_assoc}
 use Rattle.std.specs.Prelude.{option_to_list}
 use Rattle.board_units.specs.GpioCycle.{gpio_cycle, outputs_after}
 use Rattle.board_units.specs.GpioState.{GpioState}
@@ -12,7 +12,8 @@ use Rattle.chip_base.specs.declared.message.Down.TheVariants.{Reset, Set}
 use Rattle.chip_base.specs.Given.{Given}
 use Rattle.uart_lane.specs.Cycle.{appended, begun, ended, may_begin, received, sent, set_in, unit_cycle}
 use Rattle.uart_lane.specs.State.{State as Uart}
-use Rattle.chip_net.specs.Order.{AreOrdered, AreOrderedBefore, ArePast, Precedes}
+use Rattle.chip_whole.specs.Chip.{events_of}
+use Rattle.chip_whole.specs.Order.{AreOrdered, AreOrderedBefore, ArePast, Precedes}
 
 -- an event, if there is one, is of this unit and cycle
 abbrev pub ToldAt : ℕ → ℕ → Option Event → Type 0
@@ -75,6 +76,28 @@ told_next now unit events (Some e) t h = record {
     precedes : (a : Event) → IsBefore now unit a → Precedes a e
     precedes a (inl earlier) = inl (omega (arith, earlier, t.0))
     precedes a (inr here) = inr (omega (arith, here.0, t.0), omega (arith, here.1, t.1))
+
+-- the numbers of the units, each above the one before
+abbrev pub Rises : ℕ → List ℕ → Type 0
+Rises from [] = Unit {0}
+Rises from (n ∷ rest) = (from ≤ n) × Rises (suc n) rest
+
+-- each unit tells of itself, by their numbers
+abbrev pub AllTold : ℕ → List ℕ → List (Option Event) → Type 0
+AllTold now [] [] = Unit {0}
+AllTold now [] (e ∷ es) = ⊥
+AllTold now (n ∷ ns) [] = ⊥
+AllTold now (n ∷ ns) (e ∷ es) = ToldAt n now e × AllTold now ns es
+
+-- the events of a cycle come behind those before it, by unit
+pub told_all : (now from : ℕ) (numbers : List ℕ) (told : List (Option Event)) (events : List Event) → Rises from numbers → AllTold now numbers told
+    → EndBefore now from events → EndBefore (suc now) 0 (events ++ events_of told)
+told_all now from [] [] events r t h = rw append-nil (next_cycle now from events h)
+told_all now from [] (e ∷ es) events r t h = absurd t
+told_all now from (n ∷ ns) [] events r t h = absurd t
+told_all now from (n ∷ ns) (e ∷ es) events r t h =
+    subst (λ all. EndBefore (suc now) 0 all) (append_assoc events (option_to_list e) (events_of es))
+    (told_all now (suc n) ns es (events ++ option_to_list e) r.1 t.1 (told_next now n events e t.0 (later_unit now from n events r.0 h)))
 
 -- all are in the past before the first unit's place
 pub are_past : (now : ℕ) (events : List Event) → EndBefore now 0 events → AreOrderedBefore now events

@@ -1,14 +1,15 @@
 -- Where the sixteen credits of a front are, and the answers that it waits for.
-use Rattle.std.specs.Prelude.{◌≡◌, ◌≤◌, ℕ, ◌+◌, List, [], ◌∷◌, ◌++◌, Option, length, true, false}
+use Rattle.std.specs.Prelude.{◌≡◌, ◌≤◌, ℕ, ◌+◌, Bool, List, [], ◌∷◌, ◌++◌, Option, length, true, false}
 use Rattle.chip_base.specs.declared.message.Down.{Down}
 use Rattle.chip_base.specs.declared.message.Up.{Up}
-use Rattle.chip_base.specs.Messages.{data_in, credit_in, reset_in, done_in}
+use Rattle.chip_base.specs.Messages.{at_data, entry_in, credit_in, reset_in, done_in}
 use Rattle.unit_fronts.specs.Port.{Port, is_open_of}
 use Rattle.soc_words.specs.Line.{first_of}
 use Rattle.uart_lane.specs.Counts.{bytes_in, bytes_out}
 use Rattle.uart_lane.specs.Cycle.{unit_cycle}
 use Rattle.uart_lane.specs.State.{State as Uart}
-use Rattle.chip_net.specs.Chip.{State}
+use Rattle.chip_whole.specs.Chip.{State}
+use Rattle.chip_whole.specs.Joined.{Joined}
 
 -- how often something stands on a line, all places together
 abbrev pub count_on : {M : Type 0} → (Option M → ℕ) → List (Option M) → ℕ
@@ -25,25 +26,44 @@ abbrev pub AnswersComing : ℕ → List (Option Down) → List (Option Up) → T
 AnswersComing owed downs ups = owed ≡ count_on reset_in downs + count_on done_in ups
 
 -- the credits of a front, the entries that it sent and its unit holds, and the Resets
-pub record HasSixteen (front : Port) (downs : List (Option Down)) (entries : ℕ) (ups : List (Option Up)) : Type 0 where
+pub record HasSixteen (takes : ℕ → Bool) (front : Port) (downs : List (Option Down)) (entries : ℕ) (ups : List (Option Up)) : Type 0 where
   -- all credits of an open front are in it, or with an entry on its way down or in the unit, or on their way up
-  pub sum : is_open_of front ≡ true → front.credits + count_on data_in downs + entries + count_on credit_in ups ≡ 16
+  pub sum : is_open_of front ≡ true → front.credits + count_on (entry_in takes) downs + entries + count_on credit_in ups ≡ 16
   -- a closed front has all sixteen, whatever is still on its way
   pub all : is_open_of front ≡ false → front.credits ≡ 16
   -- the unit has room for each entry that comes
-  pub room : count_on data_in downs + entries + count_on credit_in ups ≤ 16
+  pub room : count_on (entry_in takes) downs + entries + count_on credit_in ups ≤ 16
   pub answers : AnswersComing front.owed downs ups
-  pub behind_reset : NoneBehind reset_in data_in downs
+  pub behind_reset : NoneBehind reset_in (entry_in takes) downs
   pub behind_answer : NoneBehind done_in credit_in ups
   -- behind an answer on its way up, all is as after a reset
-  pub answered : 1 ≤ count_on done_in ups → (entries ≡ 0) × (count_on data_in downs ≡ 0)
+  pub answered : 1 ≤ count_on done_in ups → (entries ≡ 0) × (count_on (entry_in takes) downs ≡ 0)
 
--- so it is for each unit; those of gpio and pwm take no entries, and only Resets are counted
+-- how many bytes wait in a UART
+abbrev pub waiting_in : Uart → ℕ
+waiting_in s = length s.fifo
+
+-- both lines of a unit have a place
+pub record HasPlaces {S : Type 0} (j : Joined S) : Type 0 where
+  pub down : 1 ≤ length j.down
+  pub up : 1 ≤ length j.up
+
+-- a front, and its unit whose entries are counted by `entries`
+pub record ServesUnit {S : Type 0} (takes : ℕ → Bool) (front : Port) (entries : S → ℕ) (j : Joined S) : Type 0 where
+  pub places : HasPlaces j
+  pub sixteen : HasSixteen takes front j.down (entries j.unit) j.up
+
+-- a front that waits for this many answers, and its unit, which takes no entries: only Resets are counted
+pub record AwaitsUnit {S : Type 0} (owed : ℕ) (j : Joined S) : Type 0 where
+  pub places : HasPlaces j
+  pub answers : AnswersComing owed j.down j.up
+
+-- so it is for each unit
 pub record CreditsHold (c : State) : Type 0 where
-  pub uart0 : HasSixteen c.hub.fronts.uart0 c.down_uart0 (length c.uart0.fifo) c.up_uart0
-  pub uart1 : HasSixteen c.hub.fronts.uart1 c.down_uart1 (length c.uart1.fifo) c.up_uart1
-  pub gpio : AnswersComing c.hub.fronts.gpio.owed c.down_gpio c.up_gpio
-  pub pwm : AnswersComing c.hub.fronts.pwm.owed c.down_pwm c.up_pwm
+  pub uart0 : ServesUnit at_data c.hub.fronts.uart0 waiting_in c.units.uart0
+  pub uart1 : ServesUnit at_data c.hub.fronts.uart1 waiting_in c.units.uart1
+  pub gpio : AwaitsUnit c.hub.fronts.gpio.owed c.units.gpio
+  pub pwm : AwaitsUnit c.hub.fronts.pwm.owed c.units.pwm
 
 -- in a cycle in which no Reset arrives, the bytes that waited and came are those that left and wait, in the same order
 abbrev pub UartLosesNone : Uart → ℕ → Option Down → Type 0
@@ -51,5 +71,5 @@ UartLosesNone s now down = reset_in down ≡ 0 → s.fifo ++ bytes_in down ≡ b
 
 -- no byte is lost in the cycle that comes next
 pub record LosesNone (c : State) : Type 0 where
-  pub uart0 : UartLosesNone c.uart0 c.cycle (first_of c.down_uart0)
-  pub uart1 : UartLosesNone c.uart1 c.cycle (first_of c.down_uart1)
+  pub uart0 : UartLosesNone c.units.uart0.unit c.cycle (first_of c.units.uart0.down)
+  pub uart1 : UartLosesNone c.units.uart1.unit c.cycle (first_of c.units.uart1.down)

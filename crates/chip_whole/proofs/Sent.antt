@@ -1,5 +1,5 @@
 -- Bytes on their way to a UART, in it and sent, in their order.
-use Rattle.std.proofs.Common.{◌≡◌, ◌≤◌, ℕ, zero, suc, ◌+◌, true, false, eqb, List, [], ◌∷◌, ◌++◌, length, Option, None, Some, refl, ap, sym, ◌∙◌, arith, append_assoc, append-nil}
+use Rattle.std.proofs.Common.{◌≡◌, ◌≤◌, ℕ, zero, suc, ◌+◌, Bool, true, false, eqb, List, [], ◌∷◌, ◌++◌, length, Option, None, Some, refl, ap, subst, sym, ◌∙◌, arith, append_assoc, append-nil}
 use Rattle.std.specs.Prelude.{option_to_list, if◌then◌else◌}
 use Rattle.std.proofs.lemmas.Bool.Decides.{nat_tests}
 use Rattle.chip_base.specs.Messages.{reset_in}
@@ -8,9 +8,10 @@ use Rattle.chip_base.specs.declared.message.Down.{Down}
 use Rattle.delay_line.specs.Queue.{empty_line}
 use Rattle.soc_words.specs.Line.{first_of, moved}
 use Rattle.uart_lane.specs.Counts.{bytes_in, bytes_out}
-use Rattle.chip_net.specs.Credits.{count_on}
-use Rattle.chip_net.specs.Sent.{bytes_on, told_by}
-use Rattle.chip_net.proofs.Events.{ToldAt}
+use Rattle.chip_whole.specs.Credits.{count_on}
+use Rattle.chip_whole.specs.Sent.{bytes_on, told_by}
+use Rattle.chip_whole.specs.Chip.{events_of}
+use Rattle.chip_whole.proofs.Events.{AllTold, ToldAt}
 
 -- without a Reset all bytes that were sent down are told, in the unit or on the line, and no more Resets are on the line than were sent
 pub record Keeps (sent : List ℕ) (resets : ℕ) (told fifo : List ℕ) (line : List (Option Down)) : Type 0 where
@@ -76,3 +77,25 @@ told_own unit now (Some e) t = let same : eqb e.unit unit ≡ true = grind (arit
 pub told_other : (unit other now : ℕ) (event : Option Event) → ToldAt other now event → eqb other unit ≡ false → told_by unit (option_to_list event) ≡ []
 told_other unit other now None t apart = refl
 told_other unit other now (Some e) t apart = let differ : eqb e.unit unit ≡ false = ap (λ u. eqb u unit) t.1 ∙ apart in rw differ refl
+
+-- what the units of these numbers told in a cycle, as far as it is of one of them
+abbrev pub told_among : ℕ → List ℕ → List (Option Event) → List ℕ
+told_among unit [] told = []
+told_among unit (n ∷ ns) [] = []
+told_among unit (n ∷ ns) (e ∷ es) = (if eqb n unit then bytes_out e else []) ++ told_among unit ns es
+
+told_one : (unit n now : ℕ) (e : Option Event) (same : Bool) → eqb n unit ≡ same → ToldAt n now e
+    → told_by unit (option_to_list e) ≡ (if eqb n unit then bytes_out e else [])
+told_one unit n now e true s t =
+    let here : n ≡ unit = grind (arith, nat_tests) in
+    rw s (told_own unit now e (subst (λ u. ToldAt u now e) here t))
+told_one unit n now e false s t = rw s (told_other unit n now e t s)
+
+pub told_each : (unit now : ℕ) (numbers : List ℕ) (told : List (Option Event)) → AllTold now numbers told
+    → told_by unit (events_of told) ≡ told_among unit numbers told
+told_each unit now [] [] t = refl
+told_each unit now [] (e ∷ es) t = absurd t
+told_each unit now (n ∷ ns) [] t = absurd t
+told_each unit now (n ∷ ns) (e ∷ es) t =
+    told_more unit (option_to_list e) (events_of es) ∙ ap (λ first. first ++ told_by unit (events_of es)) (told_one unit n now e _ refl t.0)
+    ∙ ap (λ later. (if eqb n unit then bytes_out e else []) ++ later) (told_each unit now ns es t.1)

@@ -1,0 +1,203 @@
+-- What holds in every state that the chip reaches.
+use Rattle.std.proofs.Common.{◌≡◌, ◌≤◌, ◌<◌, ℕ, zero, suc, ◌+◌, List, [], ◌∷◌, ◌++◌, length, Option, refl, subst, ap, sym, ◌∙◌, arith, append-nil}
+use Rattle.std.specs.Prelude.{true, get_or}
+use Rattle.std.specs.List.{list_all}
+use Rattle.std.proofs.lemmas.Bool.Decides.{nat_tests}
+use Rattle.chip_base.specs.Messages.{at_data, credit_in, entry_in}
+use Rattle.chip_base.specs.Ranges.{is_delay}
+use Rattle.chip_base.specs.Settings.{Values, values_of}
+use Rattle.chip_base.specs.declared.message.Down.{Down}
+use Rattle.chip_base.specs.declared.script.Script.{Script}
+use Rattle.chip_base.specs.declared.setup.Setup.{Setup}
+use Rattle.board_units.specs.GpioCycle.{gpio_cycle}
+use Rattle.board_units.specs.PwmCycle.{pwm_cycle}
+use Rattle.chip_hub.specs.Cycle.{start as hub_start}
+use Rattle.chip_hub.proofs.Fronts.{gpio_hears, pwm_hears, serves_gpio, serves_pwm, serves_uart0, serves_uart1}
+use Rattle.soc_words.specs.Line.{first_of}
+use Rattle.uart_lane.specs.Counts.{bytes_out}
+use Rattle.uart_lane.specs.Cycle.{unit_cycle}
+use Rattle.uart_lane.specs.State.{State as Uart}
+use Rattle.uart_lane.proofs.Counts.{keeps_count}
+use Rattle.uart_lane.proofs.Order.{keeps_order}
+use Rattle.unit_fronts.specs.Port.{Port}
+use Rattle.chip_whole.specs.Chip.{Board, State, after, arriving, delay_of, start, tick, told_by_units}
+use Rattle.chip_whole.specs.Credits.{CreditsHold, HasSixteen, LosesNone, ServesUnit, UartLosesNone, count_on, waiting_in}
+use Rattle.chip_whole.specs.Joined.{Joined, event_of}
+use Rattle.chip_whole.specs.Order.{AreOrderedBefore}
+use Rattle.chip_whole.specs.Sent.{SendsInOrder, bytes_down, resets_down, sent_down, told_by}
+use Rattle.chip_whole.proofs.Answers.{gpio_answers, pwm_answers}
+use Rattle.chip_whole.proofs.Events.{AllTold, EndBefore, ToldAt, are_past, gpio_tells, pwm_tells, told_all, uart_tells}
+use Rattle.chip_whole.proofs.Joins.{awaits_after, awaits_start, serves_after, serves_start}
+use Rattle.chip_whole.proofs.Runs.{cycle_after, kept_after}
+use Rattle.chip_whole.proofs.Sent.{Keeps, keeps, keeps_start, told_each, told_more}
+
+-- credits
+
+credits_tick : (board : Board) (c : State) → CreditsHold c → CreditsHold (tick board c)
+unfolding tick
+credits_tick board c h = record {
+  uart0 = serves_after at_data waiting_in unit_cycle _ _ c.units.uart0 c.cycle _ (serves_uart0 c.hub c.cycle (arriving c.units)) (λ s. keeps_count s c.cycle) h.uart0;
+  uart1 = serves_after at_data waiting_in unit_cycle _ _ c.units.uart1 c.cycle _ (serves_uart1 c.hub c.cycle (arriving c.units)) (λ s. keeps_count s c.cycle) h.uart1;
+  gpio = awaits_after gpio_cycle _ _ _ c.units.gpio c.cycle _ (gpio_hears c.hub.fronts.gpio _) (serves_gpio c.hub c.cycle (arriving c.units)) (λ s. gpio_answers s c.cycle) h.gpio;
+  pwm = awaits_after pwm_cycle _ _ _ c.units.pwm c.cycle _ (pwm_hears c.hub.fronts.pwm _) (serves_pwm c.hub c.cycle (arriving c.units)) (λ s. pwm_answers s c.cycle) h.pwm;
+}
+
+delay_at : (delays : List ℕ) (place : ℕ) → list_all is_delay delays ≡ true → suc place ≤ length delays → 1 ≤ get_or delays place 0
+delay_at [] place d l = absurd (omega (arith, l))
+delay_at (d ∷ rest) zero h l = grind (arith, nat_tests)
+delay_at (d ∷ rest) (suc place) h l = delay_at rest place (grind (arith)) (omega (arith, l))
+
+-- the delays of the seven units are within their range
+pub record DelaysFit (v : Values) : Type 0 where
+  pub lanes : length v.delay ≡ 7
+  pub each : list_all is_delay v.delay ≡ true
+
+delay_fits : (v : Values) (place : ℕ) → DelaysFit v → place < 7 → 1 ≤ delay_of v place
+delay_fits v place d l = delay_at v.delay place d.each (omega (arith, d.lanes, l))
+
+start_credits : (v : Values) (image : List ℕ) (script : Script) → DelaysFit v → CreditsHold (start v image script)
+unfolding start hub_start
+start_credits v image script d = record {
+  uart0 = serves_start at_data waiting_in _ _ (delay_fits v 0 d (omega arith)) refl;
+  uart1 = serves_start at_data waiting_in _ _ (delay_fits v 1 d (omega arith)) refl;
+  gpio = awaits_start _ _ (delay_fits v 3 d (omega arith));
+  pwm = awaits_start _ _ (delay_fits v 4 d (omega arith));
+}
+
+credits_after : (board : Board) (c : State) (n : ℕ) → CreditsHold c → CreditsHold (after board c n)
+credits_after board c n = kept_after board CreditsHold (credits_tick board) c n
+
+-- where the unit has room for the entries that come, none is lost
+uart_loses_none : (p : Port) (j : Joined Uart) (now : ℕ) → ServesUnit at_data p waiting_in j → UartLosesNone j.unit now (first_of j.down)
+uart_loses_none p j now h r = (keeps_order j.unit now (first_of j.down)).bytes r (by_line j.down h.sixteen)
+  where
+    by_line : (downs : List (Option Down)) → HasSixteen at_data p downs (length j.unit.fifo) j.up → length j.unit.fifo + entry_in at_data (first_of downs) ≤ 16
+    by_line [] h = let small : 0 + length j.unit.fifo + count_on credit_in j.up ≤ 16 = h.room in omega (arith, small)
+    by_line (d ∷ downs) h =
+        let small : entry_in at_data d + count_on (entry_in at_data) downs + length j.unit.fifo + count_on credit_in j.up ≤ 16 = h.room in
+        omega (arith, small)
+
+none_lost : (c : State) → CreditsHold c → LosesNone c
+none_lost c h = record {
+  uart0 = uart_loses_none c.hub.fronts.uart0 c.units.uart0 c.cycle h.uart0;
+  uart1 = uart_loses_none c.hub.fronts.uart1 c.units.uart1 c.cycle h.uart1;
+}
+
+-- events
+
+-- each unit keeps its number
+record NumbersStay (c : State) : Type 0 where
+  uart0 : c.units.uart0.unit.number ≡ 1
+  uart1 : c.units.uart1.unit.number ≡ 2
+
+uart_number : (j : Joined Uart) (now number : ℕ) → j.unit.number ≡ number → (unit_cycle j.unit now (first_of j.down)).unit.number ≡ number
+uart_number j now number e = (uart_tells j.unit now (first_of j.down)).number ∙ e
+
+uart_event : (j : Joined Uart) (now number : ℕ) → j.unit.number ≡ number → ToldAt number now (event_of unit_cycle j now)
+uart_event j now number e = subst (λ unit. ToldAt unit now (event_of unit_cycle j now)) e (uart_tells j.unit now (first_of j.down)).event
+
+numbers_tick : (board : Board) (c : State) → NumbersStay c → NumbersStay (tick board c)
+unfolding tick
+numbers_tick board c h = record { uart0 = uart_number c.units.uart0 c.cycle 1 h.uart0; uart1 = uart_number c.units.uart1 c.cycle 2 h.uart1 }
+
+numbers_after : (board : Board) (c : State) (n : ℕ) → NumbersStay c → NumbersStay (after board c n)
+numbers_after board c n = kept_after board NumbersStay (numbers_tick board) c n
+
+start_numbers : (v : Values) (image : List ℕ) (script : Script) → NumbersStay (start v image script)
+unfolding start
+start_numbers v image script = record { uart0 = refl; uart1 = refl }
+
+-- the numbers of the units that are built
+abbrev built : List ℕ
+built = 1 ∷ 2 ∷ 4 ∷ 5 ∷ []
+
+-- each unit tells of itself
+units_tell : (board : Board) (c : State) → NumbersStay c → AllTold c.cycle built (told_by_units board c.units c.cycle)
+units_tell board c n = (
+  uart_event c.units.uart0 c.cycle 1 n.uart0,
+  (uart_event c.units.uart1 c.cycle 2 n.uart1, (gpio_tells c.units.gpio.unit c.cycle _, (pwm_tells c.units.pwm.unit c.cycle _, tt))),
+)
+
+-- the units keep their numbers, and the events are in order
+record EventsStand (c : State) : Type 0 where
+  numbers : NumbersStay c
+  events : EndBefore c.cycle 0 c.events
+
+events_tick : (board : Board) (c : State) → EventsStand c → EventsStand (tick board c)
+unfolding tick
+events_tick board c h = record {
+  numbers = numbers_tick board c h.numbers;
+  events = told_all c.cycle 0 built (told_by_units board c.units c.cycle) c.events (omega arith, (omega arith, (omega arith, (omega arith, tt)))) (units_tell board c h.numbers) h.events;
+}
+
+start_events : (v : Values) (image : List ℕ) (script : Script) → EventsStand (start v image script)
+unfolding start
+start_events v image script = record { numbers = record { uart0 = refl; uart1 = refl }; events = record { order = tt; before = tt } }
+
+-- in every state that the chip reaches, its events are in order
+pub events_ordered : (board : Board) (v : Values) (image : List ℕ) (script : Script) (n : ℕ) → AreOrderedBefore n (after board (start v image script) n).events
+unfolding start
+events_ordered board v image script n =
+    let all : EventsStand (after board (start v image script) n) = kept_after board EventsStand (events_tick board) (start v image script) n (start_events v image script) in
+    let now : (after board (start v image script) n).cycle ≡ n = cycle_after board (start v image script) n ∙ omega arith in
+    subst (λ cycle. AreOrderedBefore cycle (after board (start v image script) n).events) now (are_past _ _ all.events)
+
+-- bytes
+
+told_by_uart0 : (board : Board) (c : State) → NumbersStay c → told_by 1 (tick board c).events ≡ told_by 1 c.events ++ bytes_out (event_of unit_cycle c.units.uart0 c.cycle)
+unfolding tick
+told_by_uart0 board c h =
+    told_more 1 c.events _ ∙ ap (λ later. told_by 1 c.events ++ later) (told_each 1 c.cycle built (told_by_units board c.units c.cycle) (units_tell board c h) ∙ append-nil _)
+
+told_by_uart1 : (board : Board) (c : State) → NumbersStay c → told_by 2 (tick board c).events ≡ told_by 2 c.events ++ bytes_out (event_of unit_cycle c.units.uart1 c.cycle)
+unfolding tick
+told_by_uart1 board c h =
+    told_more 2 c.events _ ∙ ap (λ later. told_by 2 c.events ++ later) (told_each 2 c.cycle built (told_by_units board c.units c.cycle) (units_tell board c h) ∙ append-nil _)
+
+-- what holds of the bytes of a UART after n cycles
+abbrev KeepsBytes : Board → State → ℕ → ℕ → ℕ → Joined Uart → Type 0
+KeepsBytes board c n place unit j = Keeps (bytes_down board c place n) (resets_down board c place n) (told_by unit (after board c n).events) j.unit.fifo j.down
+
+record BytesKept (board : Board) (c : State) (n : ℕ) : Type 0 where
+  uart0 : KeepsBytes board c n 0 1 (after board c n).units.uart0
+  uart1 : KeepsBytes board c n 1 2 (after board c n).units.uart1
+
+kept_next : (board : Board) (c : State) (n : ℕ) → CreditsHold (after board c n) → NumbersStay (after board c n) → BytesKept board c n → BytesKept board c (suc n)
+unfolding after tick bytes_down resets_down
+kept_next board c n credits numbers h =
+    let s : State = after board c n in
+    let loses : LosesNone s = none_lost s credits in
+    record {
+      uart0 = subst (λ told. Keeps (bytes_down board c 0 (suc n)) (resets_down board c 0 (suc n)) told (tick board s).units.uart0.unit.fifo (tick board s).units.uart0.down)
+          (sym (told_by_uart0 board s numbers)) (keeps _ _ _ _ _ _ s.units.uart0.down (sent_down s 0) credits.uart0.places.down loses.uart0 h.uart0);
+      uart1 = subst (λ told. Keeps (bytes_down board c 1 (suc n)) (resets_down board c 1 (suc n)) told (tick board s).units.uart1.unit.fifo (tick board s).units.uart1.down)
+          (sym (told_by_uart1 board s numbers)) (keeps _ _ _ _ _ _ s.units.uart1.down (sent_down s 1) credits.uart1.places.down loses.uart1 h.uart1);
+    }
+
+bytes_after : (board : Board) (c : State) (n : ℕ) → CreditsHold c → NumbersStay c → BytesKept board c 0 → BytesKept board c n
+bytes_after board c zero h m k = k
+bytes_after board c (suc n) h m k = kept_next board c n (credits_after board c n h) (numbers_after board c n m) (bytes_after board c n h m k)
+
+start_bytes : (board : Board) (v : Values) (image : List ℕ) (script : Script) → BytesKept board (start v image script) 0
+unfolding start after bytes_down resets_down
+start_bytes board v image script = record { uart0 = keeps_start (delay_of v 0); uart1 = keeps_start (delay_of v 1) }
+
+-- for the settings of a chip
+
+setup_fits : (s : Setup) → DelaysFit (values_of s)
+setup_fits s = record { lanes = s.lanes; each = s.delays }
+
+pub credits_of_setup : (board : Board) (s : Setup) (image : List ℕ) (script : Script) (n : ℕ) → CreditsHold (after board (start (values_of s) image script) n)
+credits_of_setup board s image script n =
+    credits_after board (start (values_of s) image script) n (start_credits (values_of s) image script (setup_fits s))
+
+pub none_lost_of_setup : (board : Board) (s : Setup) (image : List ℕ) (script : Script) (n : ℕ) → LosesNone (after board (start (values_of s) image script) n)
+none_lost_of_setup board s image script n = none_lost (after board (start (values_of s) image script) n) (credits_of_setup board s image script n)
+
+-- as long as a chip runs, each UART sends what it was given, in order
+pub sent_of_setup : (board : Board) (s : Setup) (image : List ℕ) (script : Script) (n : ℕ) → SendsInOrder board (start (values_of s) image script) n
+sent_of_setup board s image script n =
+    let v : Values = values_of s in
+    let kept : BytesKept board (start v image script) n
+    = bytes_after board (start v image script) n (start_credits v image script (setup_fits s)) (start_numbers v image script) (start_bytes board v image script) in
+    record { uart0 = kept.uart0.bytes; uart1 = kept.uart1.bytes }

@@ -1,0 +1,9 @@
+pub mod Answers
+pub mod Credits
+pub mod Events
+pub mod Holds
+pub mod Joins
+pub mod Next
+pub mod Runs
+pub mod Sent
+pub mod Keeping
