@@ -3,6 +3,5 @@ pub mod ParcelParts
 pub mod Table
 pub mod Unique
 pub mod UniqueParcel
-pub mod Vectors
 pub mod Round
 pub mod RoundParcels

@@ -1,5 +1,5 @@
 -- A row's test of a word by mask is its test of the word's fields.
-use Rattle.std.proofs.Common.{◌≡◌, ℕ, ◌+◌, ◌-◌, ◌*◌, ◌/◌, ◌%◌, ◌^◌, ◌<◌, Bool, true, eqb, List, [], ◌∷◌, Option, Some, None, refl, sym, ap, ◌∙◌, arith, bit_and, bit_or, cond}
+use Rattle.std.proofs.Common.{◌≡◌, ℕ, ◌+◌, ◌-◌, ◌*◌, ◌/◌, ◌%◌, ◌^◌, ◌<◌, Bool, true, false, eqb, List, [], ◌∷◌, Option, Some, None, refl, sym, ap, ◌∙◌, arith, bit_and, bit_or, cond, map}
 use Rattle.std.specs.List.{find, list_all}
 use Rattle.std.specs.Option.{option_map}
 use Rattle.std.specs.Int.{bit_at}
@@ -8,7 +8,11 @@ use Rattle.std.proofs.lemmas.Nat.{and_comm, or_comm, pow_pos, same_from_place}
 use Rattle.std.proofs.lemmas.Nat.Bits.{and_high, same_from_bits, bit_at_and, bit_at_or, bit_at-lt, bit_at-zero}
 use Rattle.std.proofs.lemmas.Bool.Decides.{nat_tests}
 use Rattle.rv_decode.specs.Fields.{field}
-use Rattle.rv_decode.specs.Rows.{Row, rows, matches, matches_fields, has_field, field_mask, field_pattern, mask_of, pattern_of, row_of, decoded, operands, instr_of, kind_at, kind_of_row}
+use Rattle.rv_decode.specs.declared.instr.Op.{Op}
+use Rattle.rv_decode.specs.declared.instr.Op.TheVariants.{Lui}
+use Rattle.rv_decode.specs.declared.instr.Instr.{Instr}
+use Rattle.rv_decode.specs.Rows.{Row, ops, rows, matches, field_mask, field_pattern, mask_of, pattern_of, row_of, row_at, decoded, operands, instr_of}
+use Rattle.rv_decode.specs.ByFields.{has_field, op_at, instr_at}
 
 -- where two masks share no bit, what lies under their union is p and q exactly where it lies under each
 under_first : (w m n p q : ℕ) → bit_and m n ≡ 0 → bit_and p m ≡ p → bit_and q n ≡ q → bit_and w (bit_or m n) ≡ bit_or p q → bit_and w m ≡ p
@@ -68,26 +72,50 @@ find_same p q ok same (x ∷ xs) h =
     let there : list_all ok xs ≡ true = grind arith in
     ap (λ (t : Bool). cond t (Some x) (find p xs)) (same x here) ∙ ap (λ (r : Option _). cond (q x) (Some x) r) (find_same p q ok same xs there)
 
-rows_well_formed : list_all (λ (r : Row). well_formed r.fields) rows ≡ true
-rows_well_formed = refl
+ops_well_formed : list_all (λ (op : Op). well_formed (row_of op).fields) ops ≡ true
+ops_well_formed = refl
 
--- the row of a word is the one that its fields choose
-row_by_fields : (w : ℕ) → row_of w ≡ find (matches_fields (w / 1 % 0x80) (w / 0x1000 % 8) (w / 0x2000000 % 0x80) w) rows
-row_by_fields w =
-    find_same (matches w) (λ (r : Row). list_all (has_field w) r.fields) (λ (r : Row). well_formed r.fields) (λ r ok. field_tests w r.fields ok) rows rows_well_formed
+-- the operation whose row a word has is the one that its fields choose
+op_by_fields : (w : ℕ) → find (λ (op : Op). matches w (row_of op)) ops ≡ op_at (w / 1 % 0x80) (w / 0x1000 % 8) (w / 0x2000000 % 0x80) w
+op_by_fields w =
+    find_same (λ (op : Op). matches w (row_of op)) (λ (op : Op). list_all (has_field w) (row_of op).fields) (λ (op : Op). well_formed (row_of op).fields)
+    (λ op ok. field_tests w (row_of op).fields ok) ops ops_well_formed
 
 map_twice : {A B C : Type 0} (f : A → B) (g : B → C) (o : Option A) → option_map g (option_map f o) ≡ option_map (λ x. g (f x)) o
 map_twice f g None = refl
 map_twice f g (Some x) = refl
 
+map_same : {A B : Type 0} (f g : A → B) → ((x : A) → f x ≡ g x) → (o : Option A) → option_map f o ≡ option_map g o
+map_same f g same None = refl
+map_same f g same (Some x) = ap (λ y. Some y) (same x)
+
+find_mapped : {X Y : Type 0} (f : X → Y) (p : Y → Bool) (xs : List X) → find p (map f xs) ≡ option_map f (find (λ x. p (f x)) xs)
+find_mapped f p [] = refl
+find_mapped f p (x ∷ xs) = at (p (f x)) (find_mapped f p xs)
+  where
+    at : (b : Bool) → find p (map f xs) ≡ option_map f (find (λ x. p (f x)) xs)
+        → cond b (Some (f x)) (find p (map f xs)) ≡ option_map f (cond b (Some x) (find (λ x. p (f x)) xs))
+    at true rest = refl
+    at false rest = rest
+
+-- the row of an operation names it
+pub own_op : (op : Op) → (row_of op).op ≡ op
+own_op Lui = refl
+own_op op = refl
+
+-- the instruction of a word that has an operation's row
+of_op : (w : ℕ) (op : Op) → instr_of w (row_of op) ≡ operands (row_of op).format op w
+of_op w op = ap (λ (o : Op). operands (row_of op).format o w) (own_op op)
+
 -- a word decodes by its opcode, funct3 and funct7
-pub decoded_by_fields : (w : ℕ) → w < 2 ^ 32
-    → decoded w ≡ option_map (λ k. operands k.format k.op w) (kind_at (w % 0x80) (w / 0x1000 % 8) (w / 0x2000000) w)
+pub decoded_by_fields : (w : ℕ) → w < 2 ^ 32 → decoded w ≡ instr_at (w % 0x80) (w / 0x1000 % 8) (w / 0x2000000) w
 unfolding decoded
 decoded_by_fields w fits =
     let low : w / 1 % 0x80 ≡ w % 0x80 = omega arith in
     let top : w / 0x2000000 % 0x80 ≡ w / 0x2000000 = omega arith in
-    ap (option_map (instr_of w)) (row_by_fields w)
-    ∙ sym (map_twice kind_of_row (λ k. operands k.format k.op w) (find (matches_fields (w / 1 % 0x80) (w / 0x1000 % 8) (w / 0x2000000 % 0x80) w) rows))
-    ∙ ap (λ (o : ℕ). option_map (λ k. operands k.format k.op w) (kind_at o (w / 0x1000 % 8) (w / 0x2000000 % 0x80) w)) low
-    ∙ ap (λ (t : ℕ). option_map (λ k. operands k.format k.op w) (kind_at (w % 0x80) (w / 0x1000 % 8) t w)) top
+    ap (option_map (instr_of w)) (find_mapped row_of (matches w) ops)
+    ∙ map_twice row_of (instr_of w) (find (λ (op : Op). matches w (row_of op)) ops)
+    ∙ map_same (λ (op : Op). instr_of w (row_of op)) (λ (op : Op). operands (row_of op).format op w) (of_op w) (find (λ (op : Op). matches w (row_of op)) ops)
+    ∙ ap (option_map (λ (op : Op). operands (row_of op).format op w)) (op_by_fields w)
+    ∙ ap (λ (o : ℕ). instr_at o (w / 0x1000 % 8) (w / 0x2000000 % 0x80) w) low
+    ∙ ap (λ (t : ℕ). instr_at (w % 0x80) (w / 0x1000 % 8) t w) top

@@ -7,7 +7,7 @@ use Rattle.soc_words.specs.Word.{sign_extended}
 use Rattle.rv_decode.specs.Fields.{field, placed}
 use Rattle.rv_decode.specs.declared.instr.Op.TheVariants.{Lui, Jal, Jalr, Beq, Bne, Lw, Sw, Addi, Andi, Slli, Srli, Srai, Add, Xor, Or, And, Sub, Ebreak}
 use Rattle.rv_decode.specs.Rows.{decoded}
-use Rattle.rv_decode.specs.Parcels.{ParcelRow, parcel_rows, has_parcel_row, expanded, equivalent_of, word_at, instr_at}
+use Rattle.rv_decode.specs.Parcels.{ParcelRow, parcel_rows, has_parcel_row, expanded, equivalent_of, word_at}
 use Rattle.rv_decode.specs.Parcels.{short_register, frame_offset, word_offset, small, jump_offset, stack_step, upper, branch_offset, stack_load_offset, stack_store_offset}
 use Rattle.rv_decode.proofs.Round.{made, register_round, shift_round, immediate_round, store_round, branch_round, upper_round, jump_round}
 
@@ -44,7 +44,7 @@ upper_whole v whole = grind (arith, nat_tests)
 
 -- a row's word decodes to its instruction
 abbrev Rounds : ℕ → ParcelRow → Type 0
-Rounds h r = decoded (word_at h r) ≡ Some (instr_at h r)
+Rounds h r = decoded (word_at h r) ≡ Some (r.equivalent h)
 
 abbrev Each : (ParcelRow → Type 0) → List ParcelRow → Type 0
 Each P [] = ⊤
@@ -111,7 +111,7 @@ found_each P test (r ∷ rs) all = at (test r) (found_each P test rs all.1)
     at true rest = all.0
     at false rest = rest
 
-rounds_found : (h : ℕ) (r : Option ParcelRow) → IfSome r (Rounds h) → IfSome (option_map (word_at h) r) (λ w. decoded w ≡ option_map (instr_at h) r)
+rounds_found : (h : ℕ) (r : Option ParcelRow) → IfSome r (Rounds h) → IfSome (option_map (word_at h) r) (λ w. decoded w ≡ option_map (λ r. r.equivalent h) r)
 rounds_found h None holds = tt
 rounds_found h (Some r) holds = holds
 

@@ -1,4 +1,4 @@
--- Fields of a word, and numbers made of several fields.
+-- A definition: fields of a word, and numbers made of several fields.
 use Rattle.std.specs.Prelude.{ℕ, ◌+◌, ◌-◌, ◌*◌, ◌^◌, List, [], ◌∷◌}
 use Rattle.soc_words.specs.Word.{field_of}
 

@@ -1,4 +1,5 @@
+pub mod ByFields
+pub mod Encoded
 pub mod Fields
-pub mod Names
 pub mod Parcels
 pub mod Rows

@@ -1,4 +1,4 @@
--- The rows of the table of compressed parcels, by the RISC-V Instruction Set Manual, Volume I, ""C" Extension for Compressed
+-- A definition: the table of compressed parcels, by the RISC-V Instruction Set Manual, Volume I, ""C" Extension for Compressed
 -- Instructions". A hint is the instruction that it stands for.
 use Rattle.std.specs.Prelude.{◌==◌, ℕ, ◌+◌, ◌*◌, ◌%◌, ◌^◌, Bool, ◌&&◌, if◌then◌else◌, List, [], ◌∷◌, Option, IsTrue}
 use Rattle.std.specs.List.{find, list_all, Contains}
@@ -7,53 +7,22 @@ use mathlib.Core.Bool.{not}
 use Rattle.soc_words.specs.Word.{sign_extended}
 use Rattle.rv_decode.specs.Fields.{field, joined, placed, s_bits, b_bits, u_bits, j_bits}
 use Rattle.rv_decode.specs.declared.instr.Instr.{Instr}
-use Rattle.rv_decode.specs.declared.format.Format.{Format}
-use Rattle.rv_decode.specs.declared.format.Format.TheVariants.{Register, Immediate, Store, Branch, Upper, Jump, Shift}
-use Rattle.rv_decode.specs.Rows.{Row, pattern_of, addi_row, lw_row, sw_row, jal_row, lui_row, srli_row, srai_row, andi_row, sub_row, xor_row, or_row, and_row, beq_row, bne_row, slli_row, jalr_row, add_row, ebreak_row}
-
--- the operands of an instruction; one that its format lacks is 0
-pub record Operands : Type 0 where
-  pub rd : ℕ
-  pub rs1 : ℕ
-  pub rs2 : ℕ
-  pub imm : ℕ
-
--- these operands
-abbrev pub given : ℕ → ℕ → ℕ → ℕ → Operands
-given rd rs1 rs2 imm = record { rd = rd; rs1 = rs1; rs2 = rs2; imm = imm }
-
--- the operands as they lie in a word; ebreak has no operands, and no parcel stands for a CSR row
-abbrev pub placed_operands : Format → Operands → ℕ
-placed_operands Register o = o.rd * 2 ^ 7 + o.rs1 * 2 ^ 15 + o.rs2 * 2 ^ 20
-placed_operands Immediate o = o.rd * 2 ^ 7 + o.rs1 * 2 ^ 15 + o.imm % 2 ^ 12 * 2 ^ 20
-placed_operands Shift o = o.rd * 2 ^ 7 + o.rs1 * 2 ^ 15 + o.imm * 2 ^ 20
-placed_operands Store o = o.rs1 * 2 ^ 15 + o.rs2 * 2 ^ 20 + placed 11 s_bits o.imm
-placed_operands Branch o = o.rs1 * 2 ^ 15 + o.rs2 * 2 ^ 20 + placed 12 b_bits o.imm
-placed_operands Upper o = o.rd * 2 ^ 7 + placed 31 u_bits o.imm
-placed_operands Jump o = o.rd * 2 ^ 7 + placed 20 j_bits o.imm
-placed_operands _ o = 0
-
--- the word of a row with these operands
-abbrev pub encoded : Row → Operands → ℕ
-encoded r o = pattern_of r.fields + placed_operands r.format o
+use Rattle.rv_decode.specs.declared.instr.Op.{Op}
+use Rattle.rv_decode.specs.declared.instr.Op.TheVariants.{Lui, Jal, Jalr, Beq, Bne, Lw, Sw, Addi, Andi, Slli, Srli, Srai, Add, Xor, Or, And, Sub, Ebreak}
+use Rattle.rv_decode.specs.Encoded.{encoded}
 
 -- a row: the low two and the high three bits of the parcel, further fields with their values, joined fields with a value that they
--- don't have, and the row and the operands of the instruction that the parcel stands for
+-- don't have, and the instruction that the parcel stands for
 pub record ParcelRow : Type 0 where
   pub low : ℕ
   pub high : ℕ
   pub fields : List (ℕ × ℕ × ℕ)
   pub excluded : List (List (ℕ × ℕ) × ℕ)
-  pub row : Row
-  pub operands : ℕ → Operands
+  pub equivalent : ℕ → Instr
 
 -- the word that a parcel with the row stands for
 abbrev pub word_at : ℕ → ParcelRow → ℕ
-word_at h r = encoded r.row (r.operands h)
-
--- the instruction that a parcel with the row stands for
-abbrev pub instr_at : ℕ → ParcelRow → Instr
-instr_at h r = let o = r.operands h in record { op = r.row.op; rd = o.rd; rs1 = o.rs1; rs2 = o.rs2; imm = o.imm; csr = 0 }
+word_at h r = encoded (r.equivalent h)
 
 -- a register x8 to x15, by three bits
 abbrev pub short_register : ℕ → ℕ → ℕ → ℕ
@@ -95,17 +64,21 @@ stack_load_offset h = placed 12 ((5, 5) ∷ []) h + placed 6 ((4, 2) ∷ (7, 6) 
 abbrev pub stack_store_offset : ℕ → ℕ
 stack_store_offset h = placed 12 ((5, 2) ∷ (7, 6) ∷ []) h
 
+-- an instruction of these operands, and no control and status register
+abbrev pub instr : Op → ℕ → ℕ → ℕ → ℕ → Instr
+instr op rd rs1 rs2 imm = record { op = op; rd = rd; rs1 = rs1; rs2 = rs2; imm = imm; csr = 0 }
+
 -- a row by its low two and high three bits, and the instruction
-abbrev pub parcel : ℕ → ℕ → Row → (ℕ → Operands) → ParcelRow
-parcel low high row operands = record { low = low; high = high; fields = []; excluded = []; row = row; operands = operands }
+abbrev pub parcel : ℕ → ℕ → (ℕ → Instr) → ParcelRow
+parcel low high equivalent = record { low = low; high = high; fields = []; excluded = []; equivalent = equivalent }
 
 -- the row where bits high to low are the value too
 abbrev pub where_bits : ℕ → ℕ → ℕ → ParcelRow → ParcelRow
-where_bits high low value r = record { low = r.low; high = r.high; fields = (high, low, value) ∷ r.fields; excluded = r.excluded; row = r.row; operands = r.operands }
+where_bits high low value r = record { low = r.low; high = r.high; fields = (high, low, value) ∷ r.fields; excluded = r.excluded; equivalent = r.equivalent }
 
 -- the row where the joined fields are not the value
 abbrev pub where_not : List (ℕ × ℕ) → ℕ → ParcelRow → ParcelRow
-where_not bits value r = record { low = r.low; high = r.high; fields = r.fields; excluded = (bits, value) ∷ r.excluded; row = r.row; operands = r.operands }
+where_not bits value r = record { low = r.low; high = r.high; fields = r.fields; excluded = (bits, value) ∷ r.excluded; equivalent = r.equivalent }
 
 -- where rd, or rs1, lies in a parcel
 abbrev pub rd_bits : List (ℕ × ℕ)
@@ -122,32 +95,32 @@ imm_bits = (12, 12) ∷ (6, 2) ∷ []
 -- the table
 abbrev pub parcel_rows : List ParcelRow
 parcel_rows =
-    where_not ((12, 5) ∷ []) 0 (parcel 0b00 0b000 addi_row (λ h. given (short_register 4 2 h) 2 0 (frame_offset h)))
-    ∷ parcel 0b00 0b010 lw_row (λ h. given (short_register 4 2 h) (short_register 9 7 h) 0 (word_offset h))
-    ∷ parcel 0b00 0b110 sw_row (λ h. given 0 (short_register 9 7 h) (short_register 4 2 h) (word_offset h))
-    ∷ parcel 0b01 0b000 addi_row (λ h. given (field 11 7 h) (field 11 7 h) 0 (small h))
-    ∷ parcel 0b01 0b001 jal_row (λ h. given 1 0 0 (jump_offset h))
-    ∷ parcel 0b01 0b010 addi_row (λ h. given (field 11 7 h) 0 0 (small h))
-    ∷ where_bits 11 7 2 (where_not imm_bits 0 (parcel 0b01 0b011 addi_row (λ h. given 2 2 0 (stack_step h))))
-    ∷ where_not rd_bits 2 (where_not imm_bits 0 (parcel 0b01 0b011 lui_row (λ h. given (field 11 7 h) 0 0 (upper h))))
-    ∷ where_bits 11 10 0b00 (where_bits 12 12 0 (parcel 0b01 0b100 srli_row (λ h. given (short_register 9 7 h) (short_register 9 7 h) 0 (field 6 2 h))))
-    ∷ where_bits 11 10 0b01 (where_bits 12 12 0 (parcel 0b01 0b100 srai_row (λ h. given (short_register 9 7 h) (short_register 9 7 h) 0 (field 6 2 h))))
-    ∷ where_bits 11 10 0b10 (parcel 0b01 0b100 andi_row (λ h. given (short_register 9 7 h) (short_register 9 7 h) 0 (small h)))
-    ∷ where_bits 12 10 0b011 (where_bits 6 5 0b00 (parcel 0b01 0b100 sub_row (λ h. given (short_register 9 7 h) (short_register 9 7 h) (short_register 4 2 h) 0)))
-    ∷ where_bits 12 10 0b011 (where_bits 6 5 0b01 (parcel 0b01 0b100 xor_row (λ h. given (short_register 9 7 h) (short_register 9 7 h) (short_register 4 2 h) 0)))
-    ∷ where_bits 12 10 0b011 (where_bits 6 5 0b10 (parcel 0b01 0b100 or_row (λ h. given (short_register 9 7 h) (short_register 9 7 h) (short_register 4 2 h) 0)))
-    ∷ where_bits 12 10 0b011 (where_bits 6 5 0b11 (parcel 0b01 0b100 and_row (λ h. given (short_register 9 7 h) (short_register 9 7 h) (short_register 4 2 h) 0)))
-    ∷ parcel 0b01 0b101 jal_row (λ h. given 0 0 0 (jump_offset h))
-    ∷ parcel 0b01 0b110 beq_row (λ h. given 0 (short_register 9 7 h) 0 (branch_offset h))
-    ∷ parcel 0b01 0b111 bne_row (λ h. given 0 (short_register 9 7 h) 0 (branch_offset h))
-    ∷ where_bits 12 12 0 (parcel 0b10 0b000 slli_row (λ h. given (field 11 7 h) (field 11 7 h) 0 (field 6 2 h)))
-    ∷ where_not rd_bits 0 (parcel 0b10 0b010 lw_row (λ h. given (field 11 7 h) 2 0 (stack_load_offset h)))
-    ∷ where_bits 12 12 0 (where_bits 6 2 0 (where_not rd_bits 0 (parcel 0b10 0b100 jalr_row (λ h. given 0 (field 11 7 h) 0 0))))
-    ∷ where_bits 12 12 0 (where_not rs2_bits 0 (parcel 0b10 0b100 add_row (λ h. given (field 11 7 h) 0 (field 6 2 h) 0)))
-    ∷ where_bits 12 12 1 (where_bits 6 2 0 (where_bits 11 7 0 (parcel 0b10 0b100 ebreak_row (λ h. given 0 0 0 0))))
-    ∷ where_bits 12 12 1 (where_bits 6 2 0 (where_not rd_bits 0 (parcel 0b10 0b100 jalr_row (λ h. given 1 (field 11 7 h) 0 0))))
-    ∷ where_bits 12 12 1 (where_not rs2_bits 0 (parcel 0b10 0b100 add_row (λ h. given (field 11 7 h) (field 11 7 h) (field 6 2 h) 0)))
-    ∷ parcel 0b10 0b110 sw_row (λ h. given 0 2 (field 6 2 h) (stack_store_offset h))
+    where_not ((12, 5) ∷ []) 0 (parcel 0b00 0b000 (λ h. instr Addi (short_register 4 2 h) 2 0 (frame_offset h)))
+    ∷ parcel 0b00 0b010 (λ h. instr Lw (short_register 4 2 h) (short_register 9 7 h) 0 (word_offset h))
+    ∷ parcel 0b00 0b110 (λ h. instr Sw 0 (short_register 9 7 h) (short_register 4 2 h) (word_offset h))
+    ∷ parcel 0b01 0b000 (λ h. instr Addi (field 11 7 h) (field 11 7 h) 0 (small h))
+    ∷ parcel 0b01 0b001 (λ h. instr Jal 1 0 0 (jump_offset h))
+    ∷ parcel 0b01 0b010 (λ h. instr Addi (field 11 7 h) 0 0 (small h))
+    ∷ where_bits 11 7 2 (where_not imm_bits 0 (parcel 0b01 0b011 (λ h. instr Addi 2 2 0 (stack_step h))))
+    ∷ where_not rd_bits 2 (where_not imm_bits 0 (parcel 0b01 0b011 (λ h. instr Lui (field 11 7 h) 0 0 (upper h))))
+    ∷ where_bits 11 10 0b00 (where_bits 12 12 0 (parcel 0b01 0b100 (λ h. instr Srli (short_register 9 7 h) (short_register 9 7 h) 0 (field 6 2 h))))
+    ∷ where_bits 11 10 0b01 (where_bits 12 12 0 (parcel 0b01 0b100 (λ h. instr Srai (short_register 9 7 h) (short_register 9 7 h) 0 (field 6 2 h))))
+    ∷ where_bits 11 10 0b10 (parcel 0b01 0b100 (λ h. instr Andi (short_register 9 7 h) (short_register 9 7 h) 0 (small h)))
+    ∷ where_bits 12 10 0b011 (where_bits 6 5 0b00 (parcel 0b01 0b100 (λ h. instr Sub (short_register 9 7 h) (short_register 9 7 h) (short_register 4 2 h) 0)))
+    ∷ where_bits 12 10 0b011 (where_bits 6 5 0b01 (parcel 0b01 0b100 (λ h. instr Xor (short_register 9 7 h) (short_register 9 7 h) (short_register 4 2 h) 0)))
+    ∷ where_bits 12 10 0b011 (where_bits 6 5 0b10 (parcel 0b01 0b100 (λ h. instr Or (short_register 9 7 h) (short_register 9 7 h) (short_register 4 2 h) 0)))
+    ∷ where_bits 12 10 0b011 (where_bits 6 5 0b11 (parcel 0b01 0b100 (λ h. instr And (short_register 9 7 h) (short_register 9 7 h) (short_register 4 2 h) 0)))
+    ∷ parcel 0b01 0b101 (λ h. instr Jal 0 0 0 (jump_offset h))
+    ∷ parcel 0b01 0b110 (λ h. instr Beq 0 (short_register 9 7 h) 0 (branch_offset h))
+    ∷ parcel 0b01 0b111 (λ h. instr Bne 0 (short_register 9 7 h) 0 (branch_offset h))
+    ∷ where_bits 12 12 0 (parcel 0b10 0b000 (λ h. instr Slli (field 11 7 h) (field 11 7 h) 0 (field 6 2 h)))
+    ∷ where_not rd_bits 0 (parcel 0b10 0b010 (λ h. instr Lw (field 11 7 h) 2 0 (stack_load_offset h)))
+    ∷ where_bits 12 12 0 (where_bits 6 2 0 (where_not rd_bits 0 (parcel 0b10 0b100 (λ h. instr Jalr 0 (field 11 7 h) 0 0))))
+    ∷ where_bits 12 12 0 (where_not rs2_bits 0 (parcel 0b10 0b100 (λ h. instr Add (field 11 7 h) 0 (field 6 2 h) 0)))
+    ∷ where_bits 12 12 1 (where_bits 6 2 0 (where_bits 11 7 0 (parcel 0b10 0b100 (λ h. instr Ebreak 0 0 0 0))))
+    ∷ where_bits 12 12 1 (where_bits 6 2 0 (where_not rd_bits 0 (parcel 0b10 0b100 (λ h. instr Jalr 1 (field 11 7 h) 0 0))))
+    ∷ where_bits 12 12 1 (where_not rs2_bits 0 (parcel 0b10 0b100 (λ h. instr Add (field 11 7 h) (field 11 7 h) (field 6 2 h) 0)))
+    ∷ parcel 0b10 0b110 (λ h. instr Sw 0 2 (field 6 2 h) (stack_store_offset h))
     ∷ []
 
 -- whether a parcel with these low and high bits has the row
@@ -170,7 +143,7 @@ has_parcel_row h r = fits_parcel (field 1 0 h) (field 15 13 h) h r
 
 -- the instruction that a parcel stands for
 unfoldable pub equivalent_of : ℕ → Option Instr
-equivalent_of h = option_map (instr_at h) (find (has_parcel_row h) parcel_rows)
+equivalent_of h = option_map (λ r. r.equivalent h) (find (has_parcel_row h) parcel_rows)
 
 -- r is a row of the table, and the parcel has it
 abbrev pub HasParcelRow : ℕ → ParcelRow → Type 0

@@ -3,194 +3,183 @@
 ghost use Rattle.std.specs.Prelude.{◌≡◌, ◌<◌, ◌^◌, ◌/◌, ◌%◌, Some, None, IfSome};
 ghost use Rattle.rv_decode.specs.declared.format.Format.TheVariants.{Bare};
 ghost use Rattle.rv_decode.specs.declared.instr.Op.{Op};
-ghost use Rattle.rv_decode.specs.Rows.{Row, HasRow, kind_at, operands, instr_of, decoded};
+ghost use Rattle.rv_decode.specs.ByFields.{op_at};
+ghost use Rattle.rv_decode.specs.Rows.{HasRow, row_of, operands, instr_of, decoded};
 
-use crate::format::{Format, Kind};
+use crate::format::Format;
 use crate::immediate::{immediate_b, immediate_i, immediate_j, immediate_s, immediate_u};
 use crate::instr::{Instr, Op};
-
-fn some_kind(op: Op, format: Format) -> Option<Kind>
-    ensures { result ≡ Some (record { op = op; format = format }) }
-{
-    Some(Kind { op, format })
-}
+use crate::op_rows::op_row;
 
 /// The branch rows.
-fn branch_kind(funct3: u32) -> Option<Kind>
-    ensures { result ≡ kind_at 0b1100011 funct3 0 0 }
+fn branch_op(funct3: u32) -> Option<Op>
+    ensures { result ≡ op_at 0b1100011 funct3 0 0 }
 {
-    let op = match funct3 {
-        0 => Op::Beq,
-        1 => Op::Bne,
-        4 => Op::Blt,
-        5 => Op::Bge,
-        6 => Op::Bltu,
-        7 => Op::Bgeu,
-        _ => return None,
-    };
-    some_kind(op, Format::Branch)
+    match funct3 {
+        0 => Some(Op::Beq),
+        1 => Some(Op::Bne),
+        4 => Some(Op::Blt),
+        5 => Some(Op::Bge),
+        6 => Some(Op::Bltu),
+        7 => Some(Op::Bgeu),
+        _ => None,
+    }
 }
 
 /// The load rows.
-fn load_kind(funct3: u32) -> Option<Kind>
-    ensures { result ≡ kind_at 0b0000011 funct3 0 0 }
+fn load_op(funct3: u32) -> Option<Op>
+    ensures { result ≡ op_at 0b0000011 funct3 0 0 }
 {
     match funct3 {
-        0 => some_kind(Op::Lb, Format::Immediate),
-        1 => some_kind(Op::Lh, Format::Immediate),
-        2 => some_kind(Op::Lw, Format::Immediate),
-        4 => some_kind(Op::Lbu, Format::Immediate),
-        5 => some_kind(Op::Lhu, Format::Immediate),
+        0 => Some(Op::Lb),
+        1 => Some(Op::Lh),
+        2 => Some(Op::Lw),
+        4 => Some(Op::Lbu),
+        5 => Some(Op::Lhu),
         _ => None,
     }
 }
 
 /// The store rows.
-fn store_kind(funct3: u32) -> Option<Kind>
-    ensures { result ≡ kind_at 0b0100011 funct3 0 0 }
+fn store_op(funct3: u32) -> Option<Op>
+    ensures { result ≡ op_at 0b0100011 funct3 0 0 }
 {
     match funct3 {
-        0 => some_kind(Op::Sb, Format::Store),
-        1 => some_kind(Op::Sh, Format::Store),
-        2 => some_kind(Op::Sw, Format::Store),
+        0 => Some(Op::Sb),
+        1 => Some(Op::Sh),
+        2 => Some(Op::Sw),
         _ => None,
     }
 }
 
 /// The rows of register and immediate.
-fn immediate_kind(funct3: u32, funct7: u32) -> Option<Kind>
-    ensures { result ≡ kind_at 0b0010011 funct3 funct7 0 }
+fn immediate_op(funct3: u32, funct7: u32) -> Option<Op>
+    ensures { result ≡ op_at 0b0010011 funct3 funct7 0 }
 {
     match (funct3, funct7) {
-        (0, _) => some_kind(Op::Addi, Format::Immediate),
-        (2, _) => some_kind(Op::Slti, Format::Immediate),
-        (3, _) => some_kind(Op::Sltiu, Format::Immediate),
-        (4, _) => some_kind(Op::Xori, Format::Immediate),
-        (6, _) => some_kind(Op::Ori, Format::Immediate),
-        (7, _) => some_kind(Op::Andi, Format::Immediate),
-        (1, 0) => some_kind(Op::Slli, Format::Shift),
-        (5, 0) => some_kind(Op::Srli, Format::Shift),
-        (5, 0b0100000) => some_kind(Op::Srai, Format::Shift),
+        (0, _) => Some(Op::Addi),
+        (2, _) => Some(Op::Slti),
+        (3, _) => Some(Op::Sltiu),
+        (4, _) => Some(Op::Xori),
+        (6, _) => Some(Op::Ori),
+        (7, _) => Some(Op::Andi),
+        (1, 0) => Some(Op::Slli),
+        (5, 0) => Some(Op::Srli),
+        (5, 0b0100000) => Some(Op::Srai),
         _ => None,
     }
 }
 
 /// The register rows with funct7 0.
-fn base_kind(funct3: u32) -> Option<Kind>
-    ensures { result ≡ kind_at 0b0110011 funct3 0b0000000 0 }
+fn base_op(funct3: u32) -> Option<Op>
+    ensures { result ≡ op_at 0b0110011 funct3 0b0000000 0 }
 {
     match funct3 {
-        0 => some_kind(Op::Add, Format::Register),
-        1 => some_kind(Op::Sll, Format::Register),
-        2 => some_kind(Op::Slt, Format::Register),
-        3 => some_kind(Op::Sltu, Format::Register),
-        4 => some_kind(Op::Xor, Format::Register),
-        5 => some_kind(Op::Srl, Format::Register),
-        6 => some_kind(Op::Or, Format::Register),
-        7 => some_kind(Op::And, Format::Register),
+        0 => Some(Op::Add),
+        1 => Some(Op::Sll),
+        2 => Some(Op::Slt),
+        3 => Some(Op::Sltu),
+        4 => Some(Op::Xor),
+        5 => Some(Op::Srl),
+        6 => Some(Op::Or),
+        7 => Some(Op::And),
         _ => None,
     }
 }
 
 /// The multiply and divide rows.
-fn multiply_kind(funct3: u32) -> Option<Kind>
-    ensures { result ≡ kind_at 0b0110011 funct3 0b0000001 0 }
+fn multiply_op(funct3: u32) -> Option<Op>
+    ensures { result ≡ op_at 0b0110011 funct3 0b0000001 0 }
 {
     match funct3 {
-        0 => some_kind(Op::Mul, Format::Register),
-        1 => some_kind(Op::Mulh, Format::Register),
-        2 => some_kind(Op::Mulhsu, Format::Register),
-        3 => some_kind(Op::Mulhu, Format::Register),
-        4 => some_kind(Op::Div, Format::Register),
-        5 => some_kind(Op::Divu, Format::Register),
-        6 => some_kind(Op::Rem, Format::Register),
-        7 => some_kind(Op::Remu, Format::Register),
+        0 => Some(Op::Mul),
+        1 => Some(Op::Mulh),
+        2 => Some(Op::Mulhsu),
+        3 => Some(Op::Mulhu),
+        4 => Some(Op::Div),
+        5 => Some(Op::Divu),
+        6 => Some(Op::Rem),
+        7 => Some(Op::Remu),
         _ => None,
     }
 }
 
 /// The register rows with bit 30 set.
-fn alternate_kind(funct3: u32) -> Option<Kind>
-    ensures { result ≡ kind_at 0b0110011 funct3 0b0100000 0 }
+fn alternate_op(funct3: u32) -> Option<Op>
+    ensures { result ≡ op_at 0b0110011 funct3 0b0100000 0 }
 {
     match funct3 {
-        0 => some_kind(Op::Sub, Format::Register),
-        5 => some_kind(Op::Sra, Format::Register),
+        0 => Some(Op::Sub),
+        5 => Some(Op::Sra),
         _ => None,
     }
 }
 
 /// The rows of two registers.
-fn register_kind(funct3: u32, funct7: u32) -> Option<Kind>
-    ensures { result ≡ kind_at 0b0110011 funct3 funct7 0 }
+fn register_op(funct3: u32, funct7: u32) -> Option<Op>
+    ensures { result ≡ op_at 0b0110011 funct3 funct7 0 }
 {
     match funct7 {
-        0b0000000 => base_kind(funct3),
-        0b0000001 => multiply_kind(funct3),
-        0b0100000 => alternate_kind(funct3),
+        0b0000000 => base_op(funct3),
+        0b0000001 => multiply_op(funct3),
+        0b0100000 => alternate_op(funct3),
         _ => None,
     }
 }
 
 /// The fence rows.
-fn fence_kind(funct3: u32) -> Option<Kind>
-    ensures { result ≡ kind_at 0b0001111 funct3 0 0 }
+fn fence_op(funct3: u32) -> Option<Op>
+    ensures { result ≡ op_at 0b0001111 funct3 0 0 }
 {
     match funct3 {
-        0 => some_kind(Op::Fence, Format::Bare),
-        1 => some_kind(Op::FenceI, Format::Bare),
+        0 => Some(Op::Fence),
+        1 => Some(Op::FenceI),
         _ => None,
     }
 }
 
 /// The control and status rows, and the rows that are one word.
-fn system_kind(funct3: u32, word: u32) -> Option<Kind>
+fn system_op(funct3: u32, word: u32) -> Option<Op>
     requires opcode { word % 128 ≡ 0b1110011 }
     requires funct3 { funct3 ≡ word / 2 ^ 12 % 8 }
-    ensures { result ≡ kind_at 0b1110011 funct3 0 word }
+    ensures { result ≡ op_at 0b1110011 funct3 0 word }
 {
     match funct3 {
         0 => match word {
-            0x00000073 => some_kind(Op::Ecall, Format::Bare),
-            0x00100073 => some_kind(Op::Ebreak, Format::Bare),
-            0x30200073 => some_kind(Op::Mret, Format::Bare),
-            0x10500073 => some_kind(Op::Wfi, Format::Bare),
+            0x00000073 => Some(Op::Ecall),
+            0x00100073 => Some(Op::Ebreak),
+            0x30200073 => Some(Op::Mret),
+            0x10500073 => Some(Op::Wfi),
             _ => None,
         },
-        1 => some_kind(Op::Csrrw, Format::Csr),
-        2 => some_kind(Op::Csrrs, Format::Csr),
-        3 => some_kind(Op::Csrrc, Format::Csr),
-        5 => some_kind(Op::Csrrwi, Format::CsrNumber),
-        6 => some_kind(Op::Csrrsi, Format::CsrNumber),
-        7 => some_kind(Op::Csrrci, Format::CsrNumber),
+        1 => Some(Op::Csrrw),
+        2 => Some(Op::Csrrs),
+        3 => Some(Op::Csrrc),
+        5 => Some(Op::Csrrwi),
+        6 => Some(Op::Csrrsi),
+        7 => Some(Op::Csrrci),
         _ => None,
     }
 }
 
-/// The operation of a word and the format of its operands.
-fn kind_of(word: u32) -> Option<Kind>
-    ensures { result ≡ kind_at (word % 128) (word / 2 ^ 12 % 8) (word / 2 ^ 25) word }
+/// The operation of a word.
+fn op_of(word: u32) -> Option<Op>
+    ensures { result ≡ op_at (word % 128) (word / 2 ^ 12 % 8) (word / 2 ^ 25) word }
 {
     let funct3 = word / 4096 % 8;
     let funct7 = word >> 25;
     match word & 0x7f {
-        0b0110111 => some_kind(Op::Lui, Format::Upper),
-        0b0010111 => some_kind(Op::Auipc, Format::Upper),
-        0b1101111 => some_kind(Op::Jal, Format::Jump),
-        0b1100111 => {
-            if funct3 == 0 {
-                some_kind(Op::Jalr, Format::Immediate)
-            } else {
-                None
-            }
-        }
-        0b1100011 => branch_kind(funct3),
-        0b0000011 => load_kind(funct3),
-        0b0100011 => store_kind(funct3),
-        0b0010011 => immediate_kind(funct3, funct7),
-        0b0110011 => register_kind(funct3, funct7),
-        0b0001111 => fence_kind(funct3),
-        0b1110011 => system_kind(funct3, word),
+        0b0110111 => Some(Op::Lui),
+        0b0010111 => Some(Op::Auipc),
+        0b1101111 => Some(Op::Jal),
+        0b1100111 => { if funct3 == 0 { Some(Op::Jalr) } else { None } }
+        0b1100011 => branch_op(funct3),
+        0b0000011 => load_op(funct3),
+        0b0100011 => store_op(funct3),
+        0b0010011 => immediate_op(funct3, funct7),
+        0b0110011 => register_op(funct3, funct7),
+        0b0001111 => fence_op(funct3),
+        0b1110011 => system_op(funct3, word),
         _ => None,
     }
 }
@@ -215,7 +204,7 @@ fn immediate_of(format: Format, word: u32) -> u32
     ensures { (op : Op) → result ≡ (operands format op word).imm }
 {
     match format {
-        Format::Immediate => immediate_i(word),
+        Format::Immediate | Format::Offset => immediate_i(word),
         Format::Shift => word >> 20 & 0x1f,
         Format::Store => immediate_s(word),
         Format::Branch => immediate_b(word),
@@ -227,8 +216,8 @@ fn immediate_of(format: Format, word: u32) -> u32
 }
 
 /// The instruction of a word whose operation and format are known.
-fn operands_of(kind: Kind, word: u32) -> Instr
-    ensures value { result ≡ operands kind.format kind.op word }
+fn operands_of(format: Format, op: Op, word: u32) -> Instr
+    ensures value { result ≡ operands format op word }
     ensures registers { (result.rd < 32) × (result.rs1 < 32) × (result.rs2 < 32) }
     ensures number { result.csr < 2 ^ 12 }
 {
@@ -237,17 +226,17 @@ fn operands_of(kind: Kind, word: u32) -> Instr
     let rs2 = (word >> 20 & 0x1f) as u8;
     let csr = (word >> 20) as u16;
     let bare = Instr {
-        imm: immediate_of(kind.format, word),
-        ..without_operands(kind.op)
+        imm: immediate_of(format, word),
+        ..without_operands(op)
     };
-    match kind.format {
+    match format {
         Format::Register => Instr {
             rd,
             rs1,
             rs2,
             ..bare
         },
-        Format::Immediate | Format::Shift => Instr { rd, rs1, ..bare },
+        Format::Immediate | Format::Shift | Format::Offset => Instr { rd, rs1, ..bare },
         Format::Store | Format::Branch => Instr { rs1, rs2, ..bare },
         Format::Upper | Format::Jump => Instr { rd, ..bare },
         Format::Csr => Instr {
@@ -267,18 +256,18 @@ fn decode_fields(word: u32) -> Option<Instr>
     ensures registers { IfSome result (λ i. (i.rd < 32) × (i.rs1 < 32) × (i.rs2 < 32)) }
     ensures number { IfSome result (λ i. i.csr < 2 ^ 12) }
 {
-    let kind = kind_of(word)?;
-    Some(operands_of(kind, word))
+    let op = op_of(word)?;
+    Some(operands_of(op_row(op).format, op, word))
 }
 
-/// The instruction of a word: that of the row which matches the word, of which there is at most one. None exactly where no row
-/// matches.
+/// The instruction of a word: that of the row which the word has, of which there is at most one. None exactly where it has no
+/// row.
 #[tactic(auto, using(crate::proofs::Unique::decoded_row, crate::proofs::Unique::decoded_none, crate::proofs::Unique::one_row))]
 pub fn decode(word: u32) -> Option<Instr>
     ensures value { result ≡ decoded word }
-    ensures row { (r : Row) → HasRow word r → result ≡ Some (instr_of word r) }
-    ensures none { ((r : Row) → ¬ HasRow word r) → result ≡ None }
-    ensures unique { (r s : Row) → HasRow word r → HasRow word s → r ≡ s }
+    ensures row { (op : Op) → HasRow word op → result ≡ Some (instr_of word (row_of op)) }
+    ensures none { ((op : Op) → ¬ HasRow word op) → result ≡ None }
+    ensures unique { (o p : Op) → HasRow word o → HasRow word p → o ≡ p }
     ensures registers { IfSome result (λ i. (i.rd < 32) × (i.rs1 < 32) × (i.rs2 < 32)) }
     ensures number { IfSome result (λ i. i.csr < 2 ^ 12) }
 {

@@ -1,35 +1,28 @@
-//! How operands lie in a word.
+//! How operands lie in a word and are written.
 
-use crate::instr::Op;
-
-/// How an instruction's operands lie in its word.
+/// Where an instruction's operands lie in its word, and how they are written.
 #[derive(Clone, Copy, Debug, PartialEq, Eq)]
 pub enum Format {
-    /// rd, rs1 and rs2.
+    /// rd, rs1 and rs2, written `rd, rs1, rs2`.
     Register,
-    /// rd, rs1 and an immediate of twelve bits.
+    /// rd, rs1 and an immediate of twelve bits, written `rd, rs1, imm`.
     Immediate,
-    /// rd, rs1 and a shift's amount of five bits.
+    /// rd, rs1 and a shift's amount of five bits, written `rd, rs1, amount`.
     Shift,
-    /// rs1, rs2 and an immediate of twelve bits in two parts.
+    /// rd, rs1 and an offset of twelve bits, written `rd, offset(rs1)`.
+    Offset,
+    /// rs1, rs2 and an offset of twelve bits in two parts, written `rs2, offset(rs1)`.
     Store,
-    /// rs1, rs2 and a branch's offset.
+    /// rs1, rs2 and a branch's offset, written `rs1, rs2, target`.
     Branch,
-    /// rd and the upper twenty bits of a word.
+    /// rd and the upper twenty bits of a word, written `rd, upper`.
     Upper,
-    /// rd and a jump's offset.
+    /// rd and a jump's offset, written `rd, target`.
     Jump,
-    /// rd, rs1 and the number of a control and status register.
+    /// rd, rs1 and the number of a control and status register, written `rd, csr, rs1`.
     Csr,
-    /// rd, a number of five bits and the number of a control and status register.
+    /// rd, a number of five bits and the number of a control and status register, written `rd, csr, number`.
     CsrNumber,
     /// No operands.
     Bare,
-}
-
-/// An operation and the format of its operands.
-#[derive(Clone, Copy, Debug, PartialEq, Eq)]
-pub struct Kind {
-    pub op: Op,
-    pub format: Format,
 }

@@ -6,17 +6,20 @@
 #![tactic(auto)]
 
 mod decoder;
+mod effect;
 mod encoder;
 mod format;
 mod immediate;
 mod instr;
-mod names;
+mod op_rows;
 mod parcel;
 mod parcel_immediate;
 
 pub use decoder::decode;
+pub use effect::{AluFunction, BranchCondition, CostKind, Does};
+pub use format::Format;
 pub use instr::{Instr, Op};
-pub use names::name;
+pub use op_rows::{OpRow, name, op_row};
 pub use parcel::{expand, length};
 
 #[cfg(test)]

@@ -1,54 +1,28 @@
 //! The rows of arithmetic.
 
 ghost use Rattle.std.specs.Prelude.{◌≡◌, ◌<◌, ◌≤◌, ◌^◌, ◌*ℤ◌, IsTrue, unsigned_abs};
-ghost use Rattle.rv_exec.specs.Alu.{alu_of, is_alu, is_alu_immediate, high_word};
+ghost use Rattle.rv_exec.specs.Alu.{alu_of, alu_result, takes_immediate, is_alu, is_alu_immediate, high_word};
 
-use rv_decode::Op;
+use rv_decode::{AluFunction, Does, Format, Op, op_row};
 
 /// Whether an operation is a row of arithmetic with two registers, or with a register and an immediate.
 pub fn is_alu(op: Op) -> bool
     ensures { result ≡ is_alu op }
 {
-    is_alu_immediate(op)
-        || matches!(
-            op,
-            Op::Add
-                | Op::Sub
-                | Op::Sll
-                | Op::Slt
-                | Op::Sltu
-                | Op::Xor
-                | Op::Srl
-                | Op::Sra
-                | Op::Or
-                | Op::And
-                | Op::Mul
-                | Op::Mulh
-                | Op::Mulhsu
-                | Op::Mulhu
-                | Op::Div
-                | Op::Divu
-                | Op::Rem
-                | Op::Remu
-        )
+    matches!(op_row(op).does, Does::Computes(_))
+}
+
+fn takes_immediate(format: Format) -> bool
+    ensures { result ≡ takes_immediate format }
+{
+    matches!(format, Format::Immediate | Format::Shift)
 }
 
 /// Whether an operation is a row of arithmetic whose second operand is its immediate.
 pub fn is_alu_immediate(op: Op) -> bool
     ensures { result ≡ is_alu_immediate op }
 {
-    matches!(
-        op,
-        Op::Addi
-            | Op::Slti
-            | Op::Sltiu
-            | Op::Xori
-            | Op::Ori
-            | Op::Andi
-            | Op::Slli
-            | Op::Srli
-            | Op::Srai
-    )
+    is_alu(op) && takes_immediate(op_row(op).format)
 }
 
 /// The upper word of a product.
@@ -64,14 +38,14 @@ fn multiply_high(a: i64, b: i64) -> u32
 /// A word shifted right, with its sign bit coming in.
 fn shift_right_signed(a: u32, amount: u32) -> u32
     requires { amount < 32 }
-    ensures { result ≡ alu_of Op.Sra a amount }
+    ensures { result ≡ alu_result AluFunction.ShiftRightArithmetic a amount }
 {
     (a.cast_signed() >> amount).cast_unsigned()
 }
 
 /// The quotient of two signed words, rounded towards zero.
 fn divide_signed(a: u32, b: u32) -> u32
-    ensures { result ≡ alu_of Op.Div a b }
+    ensures { result ≡ alu_result AluFunction.Quotient a b }
 {
     if b == 0 {
         u32::MAX
@@ -84,7 +58,7 @@ fn divide_signed(a: u32, b: u32) -> u32
 
 /// The remainder of two signed words, with the dividend's sign.
 fn remainder_signed(a: u32, b: u32) -> u32
-    ensures { result ≡ alu_of Op.Rem a b }
+    ensures { result ≡ alu_result AluFunction.Remainder a b }
 {
     if b == 0 {
         a
@@ -92,6 +66,34 @@ fn remainder_signed(a: u32, b: u32) -> u32
         a.cast_signed()
             .wrapping_rem(b.cast_signed())
             .cast_unsigned()
+    }
+}
+
+fn compute(function: AluFunction, a: u32, b: u32) -> u32
+    ensures { result ≡ alu_result function a b }
+{
+    match function {
+        AluFunction::Sum => a.wrapping_add(b),
+        AluFunction::Difference => a.wrapping_sub(b),
+        AluFunction::ShiftLeft => a << (b % 32),
+        AluFunction::SetLess => u32::from(a.cast_signed() < b.cast_signed()),
+        AluFunction::SetLessUnsigned => u32::from(a < b),
+        AluFunction::BitXor => a ^ b,
+        AluFunction::ShiftRight => a >> (b % 32),
+        AluFunction::ShiftRightArithmetic => shift_right_signed(a, b % 32),
+        AluFunction::BitOr => a | b,
+        AluFunction::BitAnd => a & b,
+        AluFunction::Product => a.wrapping_mul(b),
+        AluFunction::ProductHigh => multiply_high(
+            i64::from(a.cast_signed()),
+            i64::from(b.cast_signed()),
+        ),
+        AluFunction::ProductHighMixed => multiply_high(i64::from(a.cast_signed()), i64::from(b)),
+        AluFunction::ProductHighUnsigned => (u64::from(a) * u64::from(b) >> 32) as u32,
+        AluFunction::Quotient => divide_signed(a, b),
+        AluFunction::QuotientUnsigned => a.checked_div(b).unwrap_or(u32::MAX),
+        AluFunction::Remainder => remainder_signed(a, b),
+        AluFunction::RemainderUnsigned => a.checked_rem(b).unwrap_or(a),
     }
 }
 
@@ -103,25 +105,8 @@ pub fn alu(op: Op, a: u32, b: u32) -> u32
     requires { IsTrue (is_alu op) }
     ensures { result ≡ alu_of op a b }
 {
-    match op {
-        Op::Add | Op::Addi => a.wrapping_add(b),
-        Op::Sub => a.wrapping_sub(b),
-        Op::Sll | Op::Slli => a << (b % 32),
-        Op::Slt | Op::Slti => u32::from(a.cast_signed() < b.cast_signed()),
-        Op::Sltu | Op::Sltiu => u32::from(a < b),
-        Op::Xor | Op::Xori => a ^ b,
-        Op::Srl | Op::Srli => a >> (b % 32),
-        Op::Sra | Op::Srai => shift_right_signed(a, b % 32),
-        Op::Or | Op::Ori => a | b,
-        Op::And | Op::Andi => a & b,
-        Op::Mul => a.wrapping_mul(b),
-        Op::Mulh => multiply_high(i64::from(a.cast_signed()), i64::from(b.cast_signed())),
-        Op::Mulhsu => multiply_high(i64::from(a.cast_signed()), i64::from(b)),
-        Op::Mulhu => (u64::from(a) * u64::from(b) >> 32) as u32,
-        Op::Div => divide_signed(a, b),
-        Op::Divu => a.checked_div(b).unwrap_or(u32::MAX),
-        Op::Rem => remainder_signed(a, b),
-        Op::Remu => a.checked_rem(b).unwrap_or(a),
+    match op_row(op).does {
+        Does::Computes(function) => compute(function, a, b),
         _ => unreachable!(),
     }
 }

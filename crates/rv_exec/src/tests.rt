@@ -1,6 +1,6 @@
 //! Results that the manual's tables and plain arithmetic give.
 
-use crate::{alu, branch, cost, is_alu, is_alu_immediate, is_branch, is_shift};
+use crate::{alu, branch, cost};
 use rv_decode::Op;
 
 #[test]
@@ -28,36 +28,28 @@ fn computes_results(rt: HostRuntime) {
 }
 
 #[test]
-fn takes_branches(rt: HostRuntime) {
-    assert!(rt; branch(Op::Blt, 0xffff_ffff, 0));
-    assert!(rt; !branch(Op::Bltu, 0xffff_ffff, 0));
-    assert!(rt; branch(Op::Bge, 5, 5));
-    assert!(rt; !branch(Op::Bne, 5, 5));
-}
-
-#[test]
-fn counts_cycles(rt: HostRuntime) {
-    let costs = [
-        (Op::Auipc, 0, false, 2),
-        (Op::Srai, 31, false, 34),
-        (Op::Remu, 0, false, 36),
-        (Op::Bgeu, 0, false, 3),
-        (Op::Bgeu, 0, true, 6),
-        (Op::Jalr, 0, false, 6),
-        (Op::Ecall, 0, false, 6),
-        (Op::Lbu, 0, false, 5),
-        (Op::Csrrci, 0, false, 3),
-        (Op::Wfi, 0, false, 3),
+fn takes_branches_and_counts_cycles(rt: HostRuntime) {
+    let branches = [
+        (Op::Blt, 0xffff_ffff, 0, true),
+        (Op::Bltu, 0xffff_ffff, 0, false),
+        (Op::Bge, 5, 5, true),
+        (Op::Bne, 5, 5, false),
     ];
-    for (op, amount, taken, cycles) in costs {
-        assert_eq!(rt; cost(op, amount, taken), cycles, "{op:?}");
+    for (op, a, b, taken) in branches {
+        assert_eq!(rt; branch(op, a, b), taken, "{op:?} of {a:08x} and {b:08x}");
+        assert_eq!(rt; cost(op, 0, taken), if taken { 6 } else { 3 }, "{op:?}");
     }
-}
-
-#[test]
-fn tells_classes(rt: HostRuntime) {
-    assert!(rt; is_alu(Op::Remu) && is_alu(Op::Slli) && !is_alu(Op::Lui));
-    assert!(rt; is_alu_immediate(Op::Andi) && !is_alu_immediate(Op::And));
-    assert!(rt; is_branch(Op::Beq) && !is_branch(Op::Jal));
-    assert!(rt; is_shift(Op::Srl) && !is_shift(Op::Sub));
+    let costs = [
+        (Op::Auipc, 0, 2),
+        (Op::Srai, 31, 34),
+        (Op::Remu, 0, 36),
+        (Op::Jalr, 0, 6),
+        (Op::Ecall, 0, 6),
+        (Op::Lbu, 0, 5),
+        (Op::Csrrci, 0, 3),
+        (Op::Wfi, 0, 3),
+    ];
+    for (op, amount, cycles) in costs {
+        assert_eq!(rt; cost(op, amount, false), cycles, "{op:?}");
+    }
 }
