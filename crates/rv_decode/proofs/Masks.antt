@@ -54,7 +54,8 @@ well_formed (f ∷ fs) =
     eqb (bit_and (field_mask f) (mask_of fs)) 0 && eqb (bit_and (field_pattern f) (field_mask f)) (field_pattern f)
     && eqb (bit_and (pattern_of fs) (mask_of fs)) (pattern_of fs) && well_formed fs
 
-pub field_tests : (w : ℕ) (fs : List (ℕ × ℕ × ℕ)) → well_formed fs ≡ true → eqb (bit_and w (mask_of fs)) (pattern_of fs) ≡ list_all (has_field w) fs
+-- a row's test by mask and pattern is the test of each of its fields
+field_tests : (w : ℕ) (fs : List (ℕ × ℕ × ℕ)) → well_formed fs ≡ true → eqb (bit_and w (mask_of fs)) (pattern_of fs) ≡ list_all (has_field w) fs
 field_tests w [] ok = ap (λ (x : ℕ). eqb x 0) (and_comm w 0)
 field_tests w (f ∷ fs) ok =
     let far : bit_and (field_mask f) (mask_of fs) ≡ 0 = grind (arith, nat_tests) in

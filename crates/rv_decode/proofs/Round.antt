@@ -28,6 +28,7 @@ by_parts w o f3 f7 i fits low middle high here =
     ∙ ap (λ (x : ℕ). instr_at o f3 x w) high
     ∙ here
 
+-- the word of an instruction with two source registers decodes to it
 pub register_round : (w p o f3 f7 rd rs1 rs2 : ℕ) (op : Op) → p ≡ f7 * 0x2000000 + f3 * 0x1000 + o → o < 0x80 → f3 < 8 → f7 < 0x80
     → rd < 32 → rs1 < 32 → rs2 < 32
     → w ≡ p + (rd * 2 ^ 7 + rs1 * 2 ^ 15 + rs2 * 2 ^ 20)
@@ -37,6 +38,7 @@ register_round w p o f3 f7 rd rs1 rs2 op shape below_o below_f3 below_f7 below_r
     by_parts w o f3 f7 (operands Register op w) (omega arith) (omega arith) (omega arith) (omega arith) here
     ∙ same_made op (field 11 7 w) (field 19 15 w) (field 24 20 w) 0 rd rs1 rs2 0 (omega arith) (omega arith) (omega arith) refl
 
+-- the word of an instruction of a shift by an immediate decodes to it
 pub shift_round : (w p o f3 f7 rd rs1 amount : ℕ) (op : Op) → p ≡ f7 * 0x2000000 + f3 * 0x1000 + o → o < 0x80 → f3 < 8 → f7 < 0x80
     → rd < 32 → rs1 < 32 → amount < 32
     → w ≡ p + (rd * 2 ^ 7 + rs1 * 2 ^ 15 + amount * 2 ^ 20)
@@ -46,6 +48,7 @@ shift_round w p o f3 f7 rd rs1 amount op shape below_o below_f3 below_f7 below_r
     by_parts w o f3 f7 (operands Shift op w) (omega arith) (omega arith) (omega arith) (omega arith) here
     ∙ same_made op (field 11 7 w) (field 19 15 w) 0 (field 24 20 w) rd rs1 0 amount (omega arith) (omega arith) refl (omega arith)
 
+-- the word of an instruction with an immediate of twelve bits decodes to it
 pub immediate_round : (w p o f3 rd rs1 imm : ℕ) (op : Op) → p ≡ f3 * 0x1000 + o → o < 0x80 → f3 < 8 → rd < 32 → rs1 < 32
     → imm ≡ sign_extended 12 (imm % 2 ^ 12)
     → w ≡ p + (rd * 2 ^ 7 + rs1 * 2 ^ 15 + imm % 2 ^ 12 * 2 ^ 20)
@@ -57,6 +60,7 @@ immediate_round w p o f3 rd rs1 imm op shape below_o below_f3 below_rd below_rs1
     ∙ same_made op (field 11 7 w) (field 19 15 w) 0 (sign_extended 12 (joined i_bits w)) rd rs1 0 imm
     (omega arith) (omega arith) refl (ap (sign_extended 12) bits_is ∙ sym signed)
 
+-- the word of an instruction of a store decodes to it
 pub store_round : (w p o f3 rs1 rs2 imm : ℕ) (op : Op) → p ≡ f3 * 0x1000 + o → o < 0x80 → f3 < 8 → rs1 < 32 → rs2 < 32
     → imm ≡ sign_extended 12 (imm % 2 ^ 12)
     → w ≡ p + (rs1 * 2 ^ 15 + rs2 * 2 ^ 20 + placed 11 s_bits imm)
@@ -68,6 +72,7 @@ store_round w p o f3 rs1 rs2 imm op shape below_o below_f3 below_rs1 below_rs2 s
     ∙ same_made op 0 (field 19 15 w) (field 24 20 w) (sign_extended 12 (joined s_bits w)) 0 rs1 rs2 imm
     refl (omega arith) (omega arith) (ap (sign_extended 12) bits_is ∙ sym signed)
 
+-- the word of an instruction of a branch decodes to it
 pub branch_round : (w p o f3 rs1 rs2 imm : ℕ) (op : Op) → p ≡ f3 * 0x1000 + o → o < 0x80 → f3 < 8 → rs1 < 32 → rs2 < 32
     → imm ≡ sign_extended 13 (imm % 2 ^ 13) → imm % 2 ≡ 0
     → w ≡ p + (rs1 * 2 ^ 15 + rs2 * 2 ^ 20 + placed 12 b_bits imm)
@@ -79,6 +84,7 @@ branch_round w p o f3 rs1 rs2 imm op shape below_o below_f3 below_rs1 below_rs2 
     ∙ same_made op 0 (field 19 15 w) (field 24 20 w) (sign_extended 13 (2 * joined b_bits w)) 0 rs1 rs2 imm
     refl (omega arith) (omega arith) (ap (sign_extended 13) bits_is ∙ sym signed)
 
+-- the word of an instruction with the upper part of a word decodes to it
 pub upper_round : (w o rd imm : ℕ) (op : Op) → o < 0x80 → rd < 32 → imm < 2 ^ 32 → imm % 2 ^ 12 ≡ 0
     → w ≡ o + (rd * 2 ^ 7 + placed 31 u_bits imm)
     → instr_at o (w / 0x1000 % 8) (w / 0x2000000) w ≡ Some (operands Upper op w)
@@ -87,6 +93,7 @@ upper_round w o rd imm op below_o below_rd fits whole is here =
     by_parts w o (w / 0x1000 % 8) (w / 0x2000000) (operands Upper op w) (omega arith) (omega arith) refl refl here
     ∙ same_made op (field 11 7 w) 0 0 (2 ^ 12 * joined u_bits w) rd 0 0 imm (omega arith) refl refl (omega arith)
 
+-- the word of an instruction of a jump decodes to it
 pub jump_round : (w o rd imm : ℕ) (op : Op) → o < 0x80 → rd < 32 → imm ≡ sign_extended 21 (imm % 2 ^ 21) → imm % 2 ≡ 0
     → w ≡ o + (rd * 2 ^ 7 + placed 20 j_bits imm)
     → instr_at o (w / 0x1000 % 8) (w / 0x2000000) w ≡ Some (operands Jump op w)

@@ -18,6 +18,7 @@ apart r s = not (eqb (bit_and (bit_and (mask_of r.fields) (mask_of s.fields)) (p
 rows_apart : all_apart apart rows ≡ true
 rows_apart = refl
 
+-- under what two masks share, what a word has under the one is what it has under the other
 pub common_mask : (m n w : ℕ) → bit_and (bit_and m n) (bit_and w m) ≡ bit_and (bit_and m n) (bit_and w n)
 common_mask m n w = same_from_bits _ _ (λ i. simp bit_at_and (omega arith))
 

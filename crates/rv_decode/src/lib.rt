@@ -1,5 +1,5 @@
 //! The instructions of RV32IMC with Zicsr and Zifencei: words of 32 bits as instructions, parcels of 16 bits as words, and
-//! the printed names.
+//! the table that gives for each operation its printed name, its format, what its cycles depend on and what it does.
 //!
 //! RISC-V Instruction Set Manual, Volume I, chapters "RV32/64G Instruction Set Listings" and ""C" Extension for Compressed
 //! Instructions", with mret and wfi from Volume II. No call takes memory.
