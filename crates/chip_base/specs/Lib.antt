@@ -6,5 +6,7 @@ pub mod Messages
 pub mod Placing
 pub mod Prescalers
 pub mod Ranges
+pub mod RunLaws
+pub mod Runs
 pub mod Settings
 pub mod Steps

@@ -34,3 +34,11 @@ pub struct UnitOut {
     pub up: Option<Up>,
     pub event: Option<Event>,
 }
+
+impl UnitOut {
+    /// A cycle in which a unit says nothing.
+    pub const QUIET: UnitOut = UnitOut {
+        up: None,
+        event: None,
+    };
+}

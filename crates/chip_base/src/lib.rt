@@ -8,6 +8,7 @@ pub mod cycle;
 pub mod event;
 pub mod groups;
 pub mod hart;
+pub mod laws;
 pub mod message;
 pub mod names;
 pub mod prescaler;
