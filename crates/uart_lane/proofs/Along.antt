@@ -8,15 +8,15 @@ use Rattle.chip_base.specs.Messages.{reset_in}
 use Rattle.uart_lane.specs.Cycle.{begun, ended, frame_of, heard_by, may_begin, received, sent, set_in, unit_cycle}
 use Rattle.uart_lane.specs.Receiving.{receive}
 use Rattle.uart_lane.specs.Script.{byte_up}
-use Rattle.uart_lane.specs.State.{State}
+use Rattle.uart_lane.specs.State.{UartState}
 use Rattle.uart_lane.proofs.Received.{LeavesReceiver, byte_beside, set_receiver, transmitter_leaves}
 
 -- the receiver's part of a cycle
-pub record Receives (s : State) (now : ℕ) (enabled : Bool) (frame : ℕ) (g : Given State) : Type 0 where
+pub record Receives (s : UartState) (now : ℕ) (enabled : Bool) (frame : ℕ) (g : Given UartState) : Type 0 where
   pub receiver : g.unit.receiver ≡ (receive s.receiver now g.event enabled frame).receiver
   pub up : byte_up g.up ≡ option_to_list (receive s.receiver now g.event enabled frame).byte
 
-received_receives : (s : State) (g : Given State) (now : ℕ) (enabled : Bool) (frame : ℕ) → LeavesReceiver s g → g.unit.enabled ≡ enabled → frame_of g.unit ≡ frame
+received_receives : (s : UartState) (g : Given UartState) (now : ℕ) (enabled : Bool) (frame : ℕ) → LeavesReceiver s g → g.unit.enabled ≡ enabled → frame_of g.unit ≡ frame
     → Receives s now enabled frame (received g now)
 received_receives s g now enabled frame l p q = record {
   receiver = ap (λ r. (receive r now g.event g.unit.enabled (frame_of g.unit)).receiver) l.receiver
@@ -29,7 +29,7 @@ received_receives s g now enabled frame l p q = record {
 }
 
 -- without a Reset, the receiver does what it does alone
-pub unit_receives : (s : State) (now : ℕ) (down : Option Down) → reset_in down ≡ 0
+pub unit_receives : (s : UartState) (now : ℕ) (down : Option Down) → reset_in down ≡ 0
     → (enabled : Bool) × (frame : ℕ) × Receives s now enabled frame (unit_cycle s now down)
 unfolding unit_cycle
 unit_receives s now None h = (_, _, received_receives s (sent (begun s) now) now _ _ (transmitter_leaves s now) refl refl)
@@ -42,25 +42,25 @@ unit_receives s now (Some (Set reg word)) h =
 
 -- the transmitter keeps the settings
 
-record SameSettings (s : State) (g : State) : Type 0 where
+record SameSettings (s : UartState) (g : UartState) : Type 0 where
   enabled : g.enabled ≡ s.enabled
   bit : g.bit ≡ s.bit
 
-last_settings : (s : State) (now : ℕ) (fifo : List ℕ) → SameSettings s (ended s now fifo).unit
+last_settings : (s : UartState) (now : ℕ) (fifo : List ℕ) → SameSettings s (ended s now fifo).unit
 last_settings s now [] = record { enabled = refl; bit = refl }
 last_settings s now (b ∷ rest) = record { enabled = refl; bit = refl }
 
-sent_settings : (s : State) (now : ℕ) (a b : Bool) → eqb s.left 0 ≡ a → eqb s.left 1 ≡ b → SameSettings s (sent s now).unit
+sent_settings : (s : UartState) (now : ℕ) (a b : Bool) → eqb s.left 0 ≡ a → eqb s.left 1 ≡ b → SameSettings s (sent s now).unit
 sent_settings s now true b p q = rw p record { enabled = refl; bit = refl }
 sent_settings s now false true p q = rw (p, q) (last_settings s now s.fifo)
 sent_settings s now false false p q = rw (p, q) record { enabled = refl; bit = refl }
 
-begun_settings : (s : State) (a : Bool) → may_begin s ≡ a → SameSettings s (begun s)
+begun_settings : (s : UartState) (a : Bool) → may_begin s ≡ a → SameSettings s (begun s)
 begun_settings s true h = rw h record { enabled = refl; bit = refl }
 begun_settings s false h = rw h record { enabled = refl; bit = refl }
 
 -- without a message, by the settings before the cycle
-pub unit_receives_so : (s : State) (now : ℕ) → Receives s now s.enabled (frame_of s) (unit_cycle s now None)
+pub unit_receives_so : (s : UartState) (now : ℕ) → Receives s now s.enabled (frame_of s) (unit_cycle s now None)
 unfolding unit_cycle
 unit_receives_so s now =
     let a : SameSettings s (begun s) = begun_settings s _ refl in

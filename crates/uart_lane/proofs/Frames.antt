@@ -1,24 +1,27 @@
 -- A byte leaves an idle unit in the last cycle of its frame.
-use Rattle.std.proofs.Common.{◌≡◌, ℕ, zero, suc, ◌+◌, ◌-◌, ◌*◌, ◌%◌, ◌<◌, true, false, eqb, [], ◌∷◌, None, Some, refl, sym, ap, ◌∙◌, arith}
+use Rattle.std.proofs.Common.{◌≡◌, ℕ, zero, suc, ◌+◌, ◌-◌, ◌*◌, ◌%◌, ◌<◌, true, false, eqb, [], ◌∷◌, Option, None, Some, refl, sym, ap, subst, ◌∙◌, arith, add-zero}
 use Rattle.std.proofs.lemmas.Bool.Decides.{nat_tests}
 use Rattle.chip_base.specs.declared.event.EventKind.TheVariants.{Tx}
+use Rattle.chip_base.specs.declared.message.Down.{Down}
 use Rattle.chip_base.specs.declared.message.Down.TheVariants.{Set}
 use Rattle.uart_lane.specs.Receiver.{Receiver}
-use Rattle.uart_lane.specs.State.{State}
-use Rattle.chip_base.specs.Given.{Given}
-use Rattle.uart_lane.specs.Cycle.{quiet, sent, received, unit_cycle}
-use Rattle.uart_lane.specs.Frames.{only_first, unit_before, given_at, IsIdle, LeavesInTime}
+use Rattle.uart_lane.specs.State.{UartState}
+use Rattle.chip_base.specs.Given.{Given, quiet}
+use Rattle.chip_base.specs.Runs.{given_after, unit_after}
+use Rattle.chip_base.proofs.Runs.{after_more, after_none}
+use Rattle.uart_lane.specs.Cycle.{sent, received, unit_cycle}
+use Rattle.uart_lane.specs.Frames.{BringsByte, IsIdle, LeavesInTime}
 
 -- an idle unit
-abbrev pub idle : ℕ → ℕ → Receiver → State
+abbrev pub idle : ℕ → ℕ → Receiver → UartState
 idle number bit r = record { number = number; enabled = true; bit = bit; fifo = []; left = 0; receiver = r }
 
 -- the unit while the frame of a byte runs and no other byte waits
-abbrev pub running : ℕ → ℕ → ℕ → ℕ → Receiver → State
+abbrev pub running : ℕ → ℕ → ℕ → ℕ → Receiver → UartState
 running number bit byte left r = record { number = number; enabled = true; bit = bit; fifo = byte ∷ []; left = left; receiver = r }
 
 -- what a cycle gives in which no byte leaves
-abbrev pub waited : ℕ → ℕ → ℕ → ℕ → ℕ → Receiver → Given State
+abbrev pub waited : ℕ → ℕ → ℕ → ℕ → ℕ → Receiver → Given UartState
 waited n b byte m now r = received (quiet (running n b byte m r)) now
 
 pub not_equal : (a b : ℕ) → b < a → eqb a b ≡ false
@@ -47,57 +50,60 @@ pub last-cycle : (n b byte now : ℕ) (r : Receiver)
 unfolding unit_cycle
 last-cycle n b byte now r = refl
 
-pub before-next : (s : State) (t word k : ℕ) → unit_before s t word (suc k) ≡ (given_at s t word k).unit
-unfolding unit_before
-before-next s t word k = refl
-
-pub before-first : (s : State) (t word : ℕ) → unit_before s t word 0 ≡ s
-unfolding unit_before
-before-first s t word = refl
-
 -- the frame runs, whatever was received
-pub before-is : (n b t word k : ℕ) (r : Receiver) → 0 < b → k + 1 < 10 * b
-    → (q : Receiver) × (unit_before (idle n b r) t word (suc k) ≡ running n b (word % 256) (10 * b - (k + 1)) q)
-before-is n b t word zero r p h = (
+pub before-is : (n b t word k : ℕ) (r : Receiver) (downs : ℕ → Option Down) → 0 < b → BringsByte (10 * b) t word downs → k + 1 < 10 * b
+    → (q : Receiver) × (unit_after unit_cycle (idle n b r) t downs (suc k) ≡ running n b (word % 256) (10 * b - (k + 1)) q)
+before-is n b t word zero r downs p m h = (
   (waited n b (word % 256) (10 * b - 1) (t + 0) r).unit.receiver,
-  before-next (idle n b r) t word 0
-      ∙ ap (λ s. (unit_cycle s (t + 0) (only_first word 0)).unit) (before-first (idle n b r) t word)
+  after_more unit_cycle (idle n b r) t downs 0
+      ∙ ap (λ s. (unit_cycle s (t + 0) (downs (t + 0))).unit) (after_none unit_cycle (idle n b r) t downs)
+      ∙ ap (λ d. (unit_cycle (idle n b r) (t + 0) d).unit) (ap downs (add-zero t) ∙ m.first)
       ∙ ap (λ g. g.unit) (first-cycle n b (t + 0) word r p),
 )
-before-is n b t word (suc k) r p h =
-    let q : (q : Receiver) × (unit_before (idle n b r) t word (suc k) ≡ running n b (word % 256) (10 * b - (k + 1)) q)
-    = before-is n b t word k r p (omega arith) in (
+before-is n b t word (suc k) r downs p m h =
+    let q : (q : Receiver) × (unit_after unit_cycle (idle n b r) t downs (suc k) ≡ running n b (word % 256) (10 * b - (k + 1)) q)
+    = before-is n b t word k r downs p m (omega (arith, h)) in (
       (waited n b (word % 256) (10 * b - (k + 1) - 1) (t + suc k) q.0).unit.receiver,
-      before-next (idle n b r) t word (suc k)
-          ∙ ap (λ s. (unit_cycle s (t + suc k) None).unit) q.1
-          ∙ ap (λ g. g.unit) (next-cycle n b (word % 256) (t + suc k) (10 * b - (k + 1)) q.0 (omega arith))
+      after_more unit_cycle (idle n b r) t downs (suc k)
+          ∙ ap (λ s. (unit_cycle s (t + suc k) (downs (t + suc k))).unit) q.1
+          ∙ ap (λ d. (unit_cycle (running n b (word % 256) (10 * b - (k + 1)) q.0) (t + suc k) d).unit) (m.none_later k (omega (arith, h)))
+          ∙ ap (λ g. g.unit) (next-cycle n b (word % 256) (t + suc k) (10 * b - (k + 1)) q.0 (omega (arith, h)))
           ∙ ap (λ m. running n b (word % 256) m (waited n b (word % 256) (10 * b - (k + 1) - 1) (t + suc k) q.0).unit.receiver) (omega arith),
     )
 
-pub quiet-before : (n b t word k : ℕ) (r : Receiver) → 0 < b → k + 1 < 10 * b → (given_at (idle n b r) t word k).event ≡ None
-quiet-before n b t word zero r p h =
-    ap (λ s. (unit_cycle s (t + 0) (only_first word 0)).event) (before-first (idle n b r) t word)
+pub quiet-before : (n b t word k : ℕ) (r : Receiver) (downs : ℕ → Option Down) → 0 < b → BringsByte (10 * b) t word downs → k + 1 < 10 * b
+    → (given_after unit_cycle (idle n b r) t downs k).event ≡ None
+quiet-before n b t word zero r downs p m h =
+    ap (λ s. (unit_cycle s (t + 0) (downs (t + 0))).event) (after_none unit_cycle (idle n b r) t downs)
+    ∙ ap (λ d. (unit_cycle (idle n b r) (t + 0) d).event) (ap downs (add-zero t) ∙ m.first)
     ∙ ap (λ g. g.event) (first-cycle n b (t + 0) word r p)
-quiet-before n b t word (suc k) r p h =
-    let q : (q : Receiver) × (unit_before (idle n b r) t word (suc k) ≡ running n b (word % 256) (10 * b - (k + 1)) q)
-    = before-is n b t word k r p (omega arith) in
-    ap (λ s. (unit_cycle s (t + suc k) None).event) q.1
-    ∙ ap (λ g. g.event) (next-cycle n b (word % 256) (t + suc k) (10 * b - (k + 1)) q.0 (omega arith))
+quiet-before n b t word (suc k) r downs p m h =
+    let q : (q : Receiver) × (unit_after unit_cycle (idle n b r) t downs (suc k) ≡ running n b (word % 256) (10 * b - (k + 1)) q)
+    = before-is n b t word k r downs p m (omega (arith, h)) in
+    ap (λ s. (unit_cycle s (t + suc k) (downs (t + suc k))).event) q.1
+    ∙ ap (λ d. (unit_cycle (running n b (word % 256) (10 * b - (k + 1)) q.0) (t + suc k) d).event) (m.none_later k (omega (arith, h)))
+    ∙ ap (λ g. g.event) (next-cycle n b (word % 256) (t + suc k) (10 * b - (k + 1)) q.0 (omega (arith, h)))
 
-pub sent-at : (n b t word k : ℕ) (r : Receiver) → 0 < b → k + 1 ≡ 10 * b
-    → (given_at (idle n b r) t word k).event ≡ Some (record { cycle = t + k; unit = n; kind = Tx; value = word % 256 })
-sent-at n b t word zero r p h = absurd (omega arith)
-sent-at n b t word (suc k) r p h =
-    let q : (q : Receiver) × (unit_before (idle n b r) t word (suc k) ≡ running n b (word % 256) (10 * b - (k + 1)) q)
-    = before-is n b t word k r p (omega arith) in
-    ap (λ s. (unit_cycle s (t + suc k) None).event) (q.1 ∙ ap (λ m. running n b (word % 256) m q.0) (omega arith))
+pub sent-at : (n b t word k : ℕ) (r : Receiver) (downs : ℕ → Option Down) → 0 < b → BringsByte (10 * b) t word downs → k + 1 ≡ 10 * b
+    → (given_after unit_cycle (idle n b r) t downs k).event ≡ Some (record { cycle = t + k; unit = n; kind = Tx; value = word % 256 })
+sent-at n b t word zero r downs p m h = absurd (omega (arith, p, h))
+sent-at n b t word (suc k) r downs p m h =
+    let q : (q : Receiver) × (unit_after unit_cycle (idle n b r) t downs (suc k) ≡ running n b (word % 256) (10 * b - (k + 1)) q)
+    = before-is n b t word k r downs p m (omega (arith, h)) in
+    ap (λ s. (unit_cycle s (t + suc k) (downs (t + suc k))).event) (q.1 ∙ ap (λ m. running n b (word % 256) m q.0) (omega (arith, h)))
+    ∙ ap (λ d. (unit_cycle (running n b (word % 256) 1 q.0) (t + suc k) d).event) (m.none_later k (omega (arith, h)))
     ∙ last-cycle n b (word % 256) (t + suc k) q.0
 
-pub idle-is : (s : State) → IsIdle s → s ≡ idle s.number s.bit s.receiver
+pub idle-is : (s : UartState) → IsIdle s → s ≡ idle s.number s.bit s.receiver
 idle-is s i = rw (sym i.enabled, sym i.no_byte, sym i.no_frame) refl
 
-pub leaves_in_time : (s : State) (frame : ℕ) → frame ≡ 10 * s.bit → 0 < s.bit → IsIdle s → (t word : ℕ) → LeavesInTime s frame t word
-leaves_in_time s frame e p i t word = record {
-  before = λ k h. ap (λ u. (given_at u t word k).event) (idle-is s i) ∙ quiet-before s.number s.bit t word k s.receiver p (omega arith);
-  at = ap (λ u. (given_at u t word (frame - 1)).event) (idle-is s i) ∙ sent-at s.number s.bit t word (frame - 1) s.receiver p (omega arith);
-}
+-- a byte that an idle unit is given leaves in the last cycle of its frame
+pub leaves_in_time : (s : UartState) (frame : ℕ) → frame ≡ 10 * s.bit → 0 < s.bit → IsIdle s → (t word : ℕ) (downs : ℕ → Option Down)
+    → BringsByte frame t word downs → LeavesInTime s frame t word downs
+leaves_in_time s frame e p i t word downs m =
+    let n : BringsByte (10 * s.bit) t word downs = subst (λ f. BringsByte f t word downs) e m in record {
+      before = λ k h. ap (λ u. (given_after unit_cycle u t downs k).event) (idle-is s i)
+          ∙ quiet-before s.number s.bit t word k s.receiver downs p n (omega (arith, e, h));
+      at = ap (λ u. (given_after unit_cycle u t downs (frame - 1)).event) (idle-is s i)
+          ∙ sent-at s.number s.bit t word (frame - 1) s.receiver downs p n (omega (arith, e, p));
+    }

@@ -7,6 +7,7 @@ use Rattle.std.proofs.lemmas.Bool.Decides.{nat_tests}
 use Rattle.std.proofs.lemmas.Option.{slice_get_within}
 use Rattle.chip_base.specs.Given.{Given}
 use Rattle.chip_base.specs.Messages.{reset_in}
+use Rattle.chip_base.specs.Runs.{given_after, unit_after}
 use Rattle.chip_base.specs.Steps.{is_step}
 use Rattle.chip_base.specs.declared.event.Event.{Event}
 use Rattle.chip_base.specs.declared.message.Down.{Down}
@@ -15,10 +16,11 @@ use Rattle.chip_base.specs.declared.script.UartStep.{UartStep}
 use Rattle.chip_base.specs.declared.script.UartStep.TheVariants.{Expect}
 use Rattle.uart_lane.specs.Counts.{bytes_out}
 use Rattle.uart_lane.specs.Cycle.{unit_cycle}
-use Rattle.uart_lane.specs.Hearing.{unit_before, steps_before, sent_since, HearsAll}
+use Rattle.uart_lane.specs.Hearing.{sent_in, steps_before, sent_since, HearsAll, HearsItself}
 use Rattle.uart_lane.specs.Receiver.{Receiver}
 use Rattle.uart_lane.specs.Receiving.{bytes_of, current, framed, heard_with, is_sent, last_64, looked, passed, passes, ready, receive, run}
-use Rattle.uart_lane.specs.State.{State, power_on}
+use Rattle.uart_lane.specs.State.{UartState, power_on}
+use Rattle.chip_base.proofs.Runs.{after_more, after_none, given_from_zero}
 use Rattle.uart_lane.proofs.Along.{Receives, unit_receives}
 use Rattle.uart_lane.proofs.Heard.{hears_enough}
 use Rattle.uart_lane.proofs.Received.{PassesOne, hears_steps, ready_on, receive_steps, run_idle}
@@ -186,17 +188,17 @@ receive_keeps r now event enabled frame all k = record {
 }
 
 -- all bytes that were sent since the current step became the current one, after a cycle
-abbrev pub since : State → Given State → List ℕ → List ℕ
+abbrev pub since : UartState → Given UartState → List ℕ → List ℕ
 since s g all = cond (eqb (length g.unit.receiver.steps) (length s.receiver.steps)) (all ++ bytes_out g.event) []
 
-worked_keeps : (s : State) (now : ℕ) (down : Option Down) (all : List ℕ) → reset_in down ≡ 0 → Keeps s.receiver all
+worked_keeps : (s : UartState) (now : ℕ) (down : Option Down) (all : List ℕ) → reset_in down ≡ 0 → Keeps s.receiver all
     → Keeps (unit_cycle s now down).unit.receiver (since s (unit_cycle s now down) all)
 worked_keeps s now down all h k =
     let a : (enabled : Bool) × (frame : ℕ) × Receives s now enabled frame (unit_cycle s now down) = unit_receives s now down h in
     subst (λ r. Keeps r (cond (eqb (length r.steps) (length s.receiver.steps)) (all ++ bytes_out (unit_cycle s now down).event) []))
     (sym a.2.receiver) (receive_keeps s.receiver now (unit_cycle s now down).event a.0 a.1 all k)
 
-reset_keeps : (s : State) (now : ℕ) (all : List ℕ) → Keeps s.receiver all
+reset_keeps : (s : UartState) (now : ℕ) (all : List ℕ) → Keeps s.receiver all
     → Keeps (unit_cycle s now (Some Reset)).unit.receiver (since s (unit_cycle s now (Some Reset)) all)
 unfolding unit_cycle
 reset_keeps s now all k = record {
@@ -206,16 +208,22 @@ reset_keeps s now all k = record {
       (k.heard ∙ ap last_64 (sym (append-nil all))) (inl (refl, refl));
 }
 
-cycle_keeps : (s : State) (now : ℕ) (down : Option Down) (all : List ℕ) → Keeps s.receiver all
+cycle_keeps : (s : UartState) (now : ℕ) (down : Option Down) (all : List ℕ) → Keeps s.receiver all
     → Keeps (unit_cycle s now down).unit.receiver (since s (unit_cycle s now down) all)
 cycle_keeps s now None all k = worked_keeps s now None all refl k
 cycle_keeps s now (Some Reset) all k = reset_keeps s now all k
 cycle_keeps s now (Some (Set reg word)) all k = worked_keeps s now (Some (Set reg word)) all refl k
 
-run_keeps : (s : State) (downs : ℕ → Option Down) → Keeps s.receiver [] → (now : ℕ) → Keeps (unit_before s downs now).receiver (sent_since s downs now)
-unfolding unit_before sent_since
-run_keeps s downs k zero = k
-run_keeps s downs k (suc now) = cycle_keeps (unit_before s downs now) now (downs now) (sent_since s downs now) (run_keeps s downs k now)
+run_keeps : (s : UartState) (downs : ℕ → Option Down) → Keeps s.receiver [] → (now : ℕ)
+    → Keeps (unit_after unit_cycle s 0 downs now).receiver (sent_since s downs now)
+unfolding sent_since
+run_keeps s downs k zero = subst (λ u. Keeps u.receiver []) (sym (after_none unit_cycle s 0 downs)) k
+run_keeps s downs k (suc now) =
+    let u : UartState = unit_after unit_cycle s 0 downs now in
+    subst (λ v. Keeps v.receiver (cond (eqb (length v.receiver.steps) (length u.receiver.steps)) (sent_since s downs now ++ sent_in s downs now) []))
+    (sym (after_more unit_cycle s 0 downs now))
+    (subst (λ g. Keeps g.unit.receiver (since u g (sent_since s downs now))) (sym (given_from_zero unit_cycle s downs now))
+    (cycle_keeps u now (downs now) (sent_since s downs now) (run_keeps s downs k now)))
 
 -- a look at an expect step
 
@@ -268,13 +276,13 @@ receive_at r now (Some event) enabled frame all text k e =
     look_at (heard_with r (Some event)) now enabled frame (all ++ event.value ∷ []) text (heard_more r (Some event) all k.heard) e
     (idle_at_expect r text e k.sends) (short_text r.steps text k.valid e)
 
-worked_at : (s : State) (now : ℕ) (down : Option Down) (all text : List ℕ) → reset_in down ≡ 0 → Keeps s.receiver all → current s.receiver ≡ Some (Expect text)
+worked_at : (s : UartState) (now : ℕ) (down : Option Down) (all text : List ℕ) → reset_in down ≡ 0 → Keeps s.receiver all → current s.receiver ≡ Some (Expect text)
     → (unit_cycle s now down).unit.receiver.steps ≡ left_of s.receiver.steps (ends_with eqb (all ++ bytes_out (unit_cycle s now down).event) text)
 worked_at s now down all text h k e =
     let a : (enabled : Bool) × (frame : ℕ) × Receives s now enabled frame (unit_cycle s now down) = unit_receives s now down h in
     ap (λ r. r.steps) a.2.receiver ∙ receive_at s.receiver now (unit_cycle s now down).event a.0 a.1 all text k e
 
-cycle_at : (s : State) (now : ℕ) (down : Option Down) (all text : List ℕ) → Keeps s.receiver all → current s.receiver ≡ Some (Expect text)
+cycle_at : (s : UartState) (now : ℕ) (down : Option Down) (all text : List ℕ) → Keeps s.receiver all → current s.receiver ≡ Some (Expect text)
     → (unit_cycle s now down).unit.receiver.steps
     ≡ left_of s.receiver.steps (eqb (reset_in down) 0 && ends_with eqb (all ++ bytes_out (unit_cycle s now down).event) text)
 unfolding unit_cycle
@@ -282,21 +290,23 @@ cycle_at s now None all text k e = worked_at s now None all text refl k e
 cycle_at s now (Some Reset) all text k e = refl
 cycle_at s now (Some (Set reg word)) all text k e = worked_at s now (Some (Set reg word)) all text refl k e
 
-before_next : (s : State) (downs : ℕ → Option Down) (now : ℕ)
-    → steps_before s downs (suc now) ≡ (unit_cycle (unit_before s downs now) now (downs now)).unit.receiver.steps
-unfolding unit_before
-before_next s downs now = refl
-
 at_power_on : (number : ℕ) (steps : List UartStep) (image : List ℕ) → list_all is_step steps ≡ true → Keeps (power_on number steps image).receiver []
 at_power_on number steps image v = record { sends = λ l. absurd (omega (arith, l)); valid = v; heard = refl }
+
+hears_itself : (s : UartState) (downs : ℕ → Option Down) (now : ℕ) → Keeps (unit_after unit_cycle s 0 downs now).receiver (sent_since s downs now)
+    → HearsItself s downs now
+hears_itself s downs now k =
+    let u : UartState = unit_after unit_cycle s 0 downs now in
+    let same : given_after unit_cycle s 0 downs now ≡ unit_cycle u now (downs now) = given_from_zero unit_cycle s downs now in record {
+      kept = k.heard;
+      expected = λ text e.
+          ap (λ v. v.receiver.steps) (after_more unit_cycle s 0 downs now) ∙ ap (λ g. g.unit.receiver.steps) same
+          ∙ cycle_at u now (downs now) (sent_since s downs now) text k e
+          ∙ ap (λ g. left_of u.receiver.steps (eqb (reset_in (downs now)) 0 && ends_with eqb (sent_since s downs now ++ bytes_out g.event) text)) (sym same);
+    }
 
 -- what a unit hears in each run from power-on
 pub hears_all : (number : ℕ) (steps : List UartStep) (image : List ℕ) → HearsAll (power_on number steps image)
 hears_all number steps image v downs now =
-    let k : Keeps (unit_before (power_on number steps image) downs now).receiver (sent_since (power_on number steps image) downs now)
-    = run_keeps (power_on number steps image) downs (at_power_on number steps image v) now in record {
-      kept = k.heard;
-      expected = λ text e.
-          before_next (power_on number steps image) downs now
-          ∙ cycle_at (unit_before (power_on number steps image) downs now) now (downs now) (sent_since (power_on number steps image) downs now) text k e;
-    }
+    hears_itself (power_on number steps image) downs now
+    (run_keeps (power_on number steps image) downs (at_power_on number steps image v) now)

@@ -4,29 +4,29 @@ use Rattle.chip_base.specs.declared.event.Event.{Event}
 use Rattle.chip_base.specs.declared.message.Down.{Down}
 use Rattle.chip_base.specs.declared.message.Down.TheVariants.{Reset, Set}
 use Rattle.chip_base.specs.Messages.{data_in}
-use Rattle.uart_lane.specs.State.{State}
+use Rattle.uart_lane.specs.State.{UartState}
 use Rattle.chip_base.specs.Given.{Given}
 use Rattle.uart_lane.specs.Cycle.{set_in, begun, ended, sent, unit_cycle}
 use Rattle.uart_lane.specs.Counts.{bytes_in, bytes_out, KeepsOrder}
 use Rattle.uart_lane.proofs.Counts.{begun-fifo, is_less, not_four}
 
 -- what left, and what waits
-abbrev pub told : Given State → List ℕ
+abbrev pub told : Given UartState → List ℕ
 told g = bytes_out g.event ++ g.unit.fifo
 
-ended-told : (s : State) (now : ℕ) (fifo : List ℕ) → fifo ≡ s.fifo → told (ended s now fifo) ≡ fifo
+ended-told : (s : UartState) (now : ℕ) (fifo : List ℕ) → fifo ≡ s.fifo → told (ended s now fifo) ≡ fifo
 ended-told s now [] e = sym e
 ended-told s now (b ∷ rest) e = refl
 
-sent-told_by : (s : State) (now : ℕ) (a b : Bool) → eqb s.left 0 ≡ a → eqb s.left 1 ≡ b → told (sent s now) ≡ s.fifo
+sent-told_by : (s : UartState) (now : ℕ) (a b : Bool) → eqb s.left 0 ≡ a → eqb s.left 1 ≡ b → told (sent s now) ≡ s.fifo
 sent-told_by s now true b p q = rw p refl
 sent-told_by s now false true p q = rw (p, q) (ended-told s now s.fifo refl)
 sent-told_by s now false false p q = rw (p, q) refl
 
-pub sent-told : (s : State) (now : ℕ) → told (sent s now) ≡ s.fifo
+pub sent-told : (s : UartState) (now : ℕ) → told (sent s now) ≡ s.fifo
 sent-told s now = sent-told_by s now _ _ refl refl
 
-set-bytes_by : (s : State) (reg word : ℕ) (a b : Bool) → eqb reg 0 ≡ a → eqb reg 4 ≡ b → length s.fifo + data_in (Some (Set reg word)) ≤ 16
+set-bytes_by : (s : UartState) (reg word : ℕ) (a b : Bool) → eqb reg 0 ≡ a → eqb reg 4 ≡ b → length s.fifo + data_in (Some (Set reg word)) ≤ 16
     → (set_in s reg word).fifo ≡ s.fifo ++ bytes_in (Some (Set reg word))
 set-bytes_by s reg word true b p q h = rw (p, not_four reg p) (sym (append-nil s.fifo))
 set-bytes_by s reg word false true p q h =
@@ -34,11 +34,11 @@ set-bytes_by s reg word false true p q h =
     rw (p, q) (rw (is_less (length s.fifo) 16 (omega arith)) refl)
 set-bytes_by s reg word false false p q h = rw (p, q) (sym (append-nil s.fifo))
 
-pub set-bytes : (s : State) (reg word : ℕ) → length s.fifo + data_in (Some (Set reg word)) ≤ 16
+pub set-bytes : (s : UartState) (reg word : ℕ) → length s.fifo + data_in (Some (Set reg word)) ≤ 16
     → (set_in s reg word).fifo ≡ s.fifo ++ bytes_in (Some (Set reg word))
 set-bytes s reg word h = set-bytes_by s reg word _ _ refl refl h
 
-pub keeps_order : (s : State) (now : ℕ) (down : Option Down) → KeepsOrder s down (unit_cycle s now down).unit (unit_cycle s now down).event
+pub keeps_order : (s : UartState) (now : ℕ) (down : Option Down) → KeepsOrder s down (unit_cycle s now down).unit (unit_cycle s now down).event
 unfolding unit_cycle
 keeps_order s now None = record {
   bytes = λ r h. append-nil s.fifo ∙ sym (begun-fifo s) ∙ sym (sent-told (begun s) now);
@@ -54,6 +54,6 @@ keeps_order s now (Some (Set reg word)) = record {
 }
 
 -- the same, where the unit after the cycle and its event are known by equations
-pub order_kept : (s : State) (now : ℕ) (down : Option Down) (new : State) (event : Option Event)
+pub order_kept : (s : UartState) (now : ℕ) (down : Option Down) (new : UartState) (event : Option Event)
     → new ≡ (unit_cycle s now down).unit → event ≡ (unit_cycle s now down).event → KeepsOrder s down new event
 order_kept s now down new event e v = rw (e, v) (keeps_order s now down)

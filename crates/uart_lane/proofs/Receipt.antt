@@ -1,5 +1,5 @@
 -- A byte of the script goes up in the last cycle of its frame.
-use Rattle.std.proofs.Common.{◌≡◌, ◌<◌, ℕ, zero, suc, ◌+◌, ◌-◌, ◌*◌, Bool, true, false, eqb, leb, [], ◌∷◌, length, Option, None, Some, refl, sym, ap, subst, ◌∙◌, arith}
+use Rattle.std.proofs.Common.{◌≡◌, ◌<◌, ℕ, zero, suc, ◌+◌, ◌-◌, ◌*◌, Bool, true, false, eqb, leb, [], ◌∷◌, length, Option, None, Some, refl, sym, ap, subst, ◌∙◌, arith, add-zero}
 use Rattle.std.specs.Prelude.{option_to_list, slice_get}
 use Rattle.std.proofs.lemmas.Bool.{false≢true}
 use Rattle.std.proofs.lemmas.Bool.Decides.{nat_tests}
@@ -8,12 +8,14 @@ use Rattle.chip_base.specs.declared.event.Event.{Event}
 use Rattle.chip_base.specs.declared.message.Down.{Down}
 use Rattle.chip_base.specs.Given.{Given}
 use Rattle.chip_base.specs.Messages.{reset_in}
+use Rattle.chip_base.specs.Runs.{given_after, unit_after}
+use Rattle.chip_base.proofs.Runs.{after_more, after_none}
 use Rattle.uart_lane.specs.Cycle.{frame_of, unit_cycle}
-use Rattle.uart_lane.specs.Receipt.{unit_from, byte_at, HasNext, LetsReceive, ReceivesInTime}
+use Rattle.uart_lane.specs.Receipt.{byte_at, HasNext, LetsReceive, ReceivesInTime}
 use Rattle.uart_lane.specs.Receiver.{Receiver}
 use Rattle.uart_lane.specs.Receiving.{Received, bytes_of, current, framed, heard_with, is_sent, looked, passes, ready, receive, run}
 use Rattle.uart_lane.specs.Script.{byte_up}
-use Rattle.uart_lane.specs.State.{State}
+use Rattle.uart_lane.specs.State.{UartState}
 use Rattle.uart_lane.proofs.Along.{Receives, unit_receives, unit_receives_so}
 use Rattle.uart_lane.proofs.Frames.{not_equal}
 use Rattle.uart_lane.proofs.Received.{look_sent, ready_off, ready_on}
@@ -96,12 +98,12 @@ receive_gives_up r now (Some event) enabled frame h = gives_up (heard_with r (So
 
 -- the unit's cycles
 
-record Underway (g : Given State) (cycles value : ℕ) : Type 0 where
+record Underway (g : Given UartState) (cycles value : ℕ) : Type 0 where
   left : g.unit.receiver.left ≡ cycles
   byte : g.unit.receiver.byte ≡ value
   none : byte_up g.up ≡ []
 
-under_way : (s : State) (now : ℕ) (enabled : Bool) (frame : ℕ) (g : Given State) (left byte : ℕ) → Receives s now enabled frame g
+under_way : (s : UartState) (now : ℕ) (enabled : Bool) (frame : ℕ) (g : Given UartState) (left byte : ℕ) → Receives s now enabled frame g
     → RunsOn (receive s.receiver now g.event enabled frame) left byte → Underway g left byte
 under_way s now enabled frame g left byte a r = record {
   left = ap (λ q. q.left) a.receiver ∙ r.left;
@@ -109,62 +111,53 @@ under_way s now enabled frame g left byte a r = record {
   none = a.up ∙ ap option_to_list r.none;
 }
 
-first_cycle : (s : State) (now byte : ℕ) → HasNext s byte → 0 < s.bit → Underway (unit_cycle s now None) (frame_of s - 1) byte
+first_cycle : (s : UartState) (now byte : ℕ) → HasNext s byte → 0 < s.bit → Underway (unit_cycle s now None) (frame_of s - 1) byte
 first_cycle s now byte n p =
     under_way s now true (frame_of s) (unit_cycle s now None) (frame_of s - 1) byte
     (subst (λ enabled. Receives s now enabled (frame_of s) (unit_cycle s now None)) n.enabled (unit_receives_so s now))
     (receive_begins s.receiver now (unit_cycle s now None).event (frame_of s) byte n.no_frame n.next (omega (arith, p)))
 
-next_cycle : (s : State) (now : ℕ) (down : Option Down) → reset_in down ≡ 0 → 1 < s.receiver.left
+next_cycle : (s : UartState) (now : ℕ) (down : Option Down) → reset_in down ≡ 0 → 1 < s.receiver.left
     → Underway (unit_cycle s now down) (s.receiver.left - 1) s.receiver.byte
 next_cycle s now down h l =
     let a : (enabled : Bool) × (frame : ℕ) × Receives s now enabled frame (unit_cycle s now down) = unit_receives s now down h in
     under_way s now a.0 a.1 (unit_cycle s now down) (s.receiver.left - 1) s.receiver.byte a.2
     (receive_goes_on s.receiver now (unit_cycle s now down).event a.0 a.1 l)
 
-last_cycle : (s : State) (now : ℕ) (down : Option Down) → reset_in down ≡ 0 → s.receiver.left ≡ 1
+last_cycle : (s : UartState) (now : ℕ) (down : Option Down) → reset_in down ≡ 0 → s.receiver.left ≡ 1
     → byte_up (unit_cycle s now down).up ≡ s.receiver.byte ∷ []
 last_cycle s now down h l =
     let a : (enabled : Bool) × (frame : ℕ) × Receives s now enabled frame (unit_cycle s now down) = unit_receives s now down h in
     a.2.up ∙ ap option_to_list (receive_gives_up s.receiver now (unit_cycle s now down).event a.0 a.1 l)
 
--- what the cycle t + k gives
-abbrev given_from : State → ℕ → (ℕ → Option Down) → ℕ → Given State
-given_from s t downs k = unit_cycle (unit_from s t downs k) (t + k) (downs k)
-
-from_first : (s : State) (t : ℕ) (downs : ℕ → Option Down) → unit_from s t downs 0 ≡ s
-unfolding unit_from
-from_first s t downs = refl
-
-from_next : (s : State) (t : ℕ) (downs : ℕ → Option Down) (k : ℕ) → unit_from s t downs (suc k) ≡ (given_from s t downs k).unit
-unfolding unit_from
-from_next s t downs k = refl
-
-runs_on : (s : State) (byte : ℕ) → HasNext s byte → 0 < s.bit → (t : ℕ) (downs : ℕ → Option Down) → LetsReceive downs
-    → (k : ℕ) → k + 1 < frame_of s → Underway (given_from s t downs k) (frame_of s - (k + 1)) byte
+runs_on : (s : UartState) (byte : ℕ) → HasNext s byte → 0 < s.bit → (t : ℕ) (downs : ℕ → Option Down) → LetsReceive (frame_of s) t downs
+    → (k : ℕ) → k + 1 < frame_of s → Underway (given_after unit_cycle s t downs k) (frame_of s - (k + 1)) byte
 runs_on s byte n p t downs l zero h =
-    subst (λ u. Underway (unit_cycle u (t + 0) (downs 0)) (frame_of s - 1) byte) (sym (from_first s t downs))
-    (subst (λ down. Underway (unit_cycle s (t + 0) down) (frame_of s - 1) byte) (sym l.first) (first_cycle s (t + 0) byte n p))
+    subst (λ u. Underway (unit_cycle u (t + 0) (downs (t + 0))) (frame_of s - 1) byte) (sym (after_none unit_cycle s t downs))
+    (subst (λ down. Underway (unit_cycle s (t + 0) down) (frame_of s - 1) byte) (sym (ap downs (add-zero t) ∙ l.first)) (first_cycle s (t + 0) byte n p))
 runs_on s byte n p t downs l (suc k) h =
-    let before : Underway (given_from s t downs k) (frame_of s - (k + 1)) byte = runs_on s byte n p t downs l k (omega (arith, h)) in
-    let left : (unit_from s t downs (suc k)).receiver.left ≡ frame_of s - (k + 1) = ap (λ u. u.receiver.left) (from_next s t downs k) ∙ before.left in
-    let same : (unit_from s t downs (suc k)).receiver.byte ≡ byte = ap (λ u. u.receiver.byte) (from_next s t downs k) ∙ before.byte in
-    let next : Underway (given_from s t downs (suc k)) ((unit_from s t downs (suc k)).receiver.left - 1) (unit_from s t downs (suc k)).receiver.byte
-    = next_cycle (unit_from s t downs (suc k)) (t + suc k) (downs (suc k)) (l.no_reset (suc k)) (omega (arith, left, h)) in
+    let before : Underway (given_after unit_cycle s t downs k) (frame_of s - (k + 1)) byte = runs_on s byte n p t downs l k (omega (arith, h)) in
+    let u : UartState = unit_after unit_cycle s t downs (suc k) in
+    let left : u.receiver.left ≡ frame_of s - (k + 1) = ap (λ u. u.receiver.left) (after_more unit_cycle s t downs k) ∙ before.left in
+    let same : u.receiver.byte ≡ byte = ap (λ u. u.receiver.byte) (after_more unit_cycle s t downs k) ∙ before.byte in
+    let next : Underway (given_after unit_cycle s t downs (suc k)) (u.receiver.left - 1) u.receiver.byte
+    = next_cycle u (t + suc k) (downs (t + suc k)) (l.no_reset (suc k) (omega (arith, h))) (omega (arith, left, h)) in
     record { left = next.left ∙ omega (arith, left); byte = next.byte ∙ same; none = next.none }
 
-comes_at : (s : State) (byte : ℕ) → HasNext s byte → 0 < s.bit → (t : ℕ) (downs : ℕ → Option Down) → LetsReceive downs
+comes_at : (s : UartState) (byte : ℕ) → HasNext s byte → 0 < s.bit → (t : ℕ) (downs : ℕ → Option Down) → LetsReceive (frame_of s) t downs
     → (k : ℕ) → k + 1 ≡ frame_of s → byte_at s t downs k ≡ byte ∷ []
 comes_at s byte n p t downs l zero h = absurd (omega (arith, p, h))
 comes_at s byte n p t downs l (suc k) h =
-    let before : Underway (given_from s t downs k) (frame_of s - (k + 1)) byte = runs_on s byte n p t downs l k (omega (arith, h)) in
-    let left : (unit_from s t downs (suc k)).receiver.left ≡ 1 =
-    ap (λ u. u.receiver.left) (from_next s t downs k) ∙ before.left ∙ omega (arith, h) in
-    let same : (unit_from s t downs (suc k)).receiver.byte ≡ byte = ap (λ u. u.receiver.byte) (from_next s t downs k) ∙ before.byte in
-    last_cycle (unit_from s t downs (suc k)) (t + suc k) (downs (suc k)) (l.no_reset (suc k)) left ∙ ap (λ b. b ∷ []) same
+    let before : Underway (given_after unit_cycle s t downs k) (frame_of s - (k + 1)) byte = runs_on s byte n p t downs l k (omega (arith, h)) in
+    let u : UartState = unit_after unit_cycle s t downs (suc k) in
+    let left : u.receiver.left ≡ 1 = ap (λ u. u.receiver.left) (after_more unit_cycle s t downs k) ∙ before.left ∙ omega (arith, h) in
+    let same : u.receiver.byte ≡ byte = ap (λ u. u.receiver.byte) (after_more unit_cycle s t downs k) ∙ before.byte in
+    last_cycle u (t + suc k) (downs (t + suc k)) (l.no_reset (suc k) (omega (arith, h))) left ∙ ap (λ b. b ∷ []) same
 
-pub receives_in_time : (s : State) (frame : ℕ) → frame ≡ 10 * s.bit → 0 < s.bit → ReceivesInTime s frame
-receives_in_time s frame e p byte n t downs l = record {
-  before = λ k h. (runs_on s byte n p t downs l k (omega (arith, e, h))).none;
-  at = comes_at s byte n p t downs l (frame - 1) (omega (arith, e, p));
-}
+-- the next byte of the script goes up in the last cycle of its frame
+pub receives_in_time : (s : UartState) (frame : ℕ) → frame ≡ 10 * s.bit → 0 < s.bit → ReceivesInTime s frame
+receives_in_time s frame e p byte n t downs l =
+    let m : LetsReceive (frame_of s) t downs = subst (λ f. LetsReceive f t downs) e l in record {
+      before = λ k h. (runs_on s byte n p t downs m k (omega (arith, e, h))).none;
+      at = comes_at s byte n p t downs m (frame - 1) (omega (arith, e, p));
+    }

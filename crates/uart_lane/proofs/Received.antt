@@ -16,7 +16,7 @@ use Rattle.uart_lane.specs.Cycle.{appended, begun, ended as sent_last, frame_of,
 use Rattle.uart_lane.specs.Receiver.{Receiver}
 use Rattle.uart_lane.specs.Receiving.{bytes_of, current, ended, framed, heard_with, is_sent, looked, passed, passes, ready, receive, run}
 use Rattle.uart_lane.specs.Script.{KeepsScript, byte_up, not_begun, sent_by, to_come}
-use Rattle.uart_lane.specs.State.{State}
+use Rattle.uart_lane.specs.State.{UartState}
 
 -- lists and tests
 
@@ -159,24 +159,24 @@ receive_steps r now event enabled frame =
 
 -- the transmitter leaves the receiver, and takes no byte up
 
-pub record LeavesReceiver (s : State) (g : Given State) : Type 0 where
+pub record LeavesReceiver (s : UartState) (g : Given UartState) : Type 0 where
   pub receiver : g.unit.receiver ≡ s.receiver
   pub up : byte_up g.up ≡ []
 
-last_leaves : (s : State) (now : ℕ) (fifo : List ℕ) → LeavesReceiver s (sent_last s now fifo)
+last_leaves : (s : UartState) (now : ℕ) (fifo : List ℕ) → LeavesReceiver s (sent_last s now fifo)
 last_leaves s now [] = record { receiver = refl; up = refl }
 last_leaves s now (b ∷ rest) = record { receiver = refl; up = refl }
 
-sent_leaves_by : (s : State) (now : ℕ) (a b : Bool) → eqb s.left 0 ≡ a → eqb s.left 1 ≡ b → LeavesReceiver s (sent s now)
+sent_leaves_by : (s : UartState) (now : ℕ) (a b : Bool) → eqb s.left 0 ≡ a → eqb s.left 1 ≡ b → LeavesReceiver s (sent s now)
 sent_leaves_by s now true b p q = rw p record { receiver = refl; up = refl }
 sent_leaves_by s now false true p q = rw (p, q) (last_leaves s now s.fifo)
 sent_leaves_by s now false false p q = rw (p, q) record { receiver = refl; up = refl }
 
-begun_receiver : (s : State) (a : Bool) → may_begin s ≡ a → (begun s).receiver ≡ s.receiver
+begun_receiver : (s : UartState) (a : Bool) → may_begin s ≡ a → (begun s).receiver ≡ s.receiver
 begun_receiver s true h = rw h refl
 begun_receiver s false h = rw h refl
 
-pub transmitter_leaves : (s : State) (now : ℕ) → LeavesReceiver s (sent (begun s) now)
+pub transmitter_leaves : (s : UartState) (now : ℕ) → LeavesReceiver s (sent (begun s) now)
 transmitter_leaves s now =
     let leaves : LeavesReceiver (begun s) (sent (begun s) now) = sent_leaves_by (begun s) now _ _ refl refl in
     record { receiver = leaves.receiver ∙ begun_receiver s _ refl; up = leaves.up }
@@ -187,21 +187,21 @@ byte_beside None (Some b) h = refl
 byte_beside (Some up) None h = h
 byte_beside (Some up) (Some b) h = refl
 
-appended_receiver : (s : State) (byte : ℕ) (a : Bool) → ltb (length s.fifo) 16 ≡ a → (appended s byte).receiver ≡ s.receiver
+appended_receiver : (s : UartState) (byte : ℕ) (a : Bool) → ltb (length s.fifo) 16 ≡ a → (appended s byte).receiver ≡ s.receiver
 appended_receiver s byte true h = rw h refl
 appended_receiver s byte false h = rw h refl
 
-pub set_receiver : (s : State) (reg word : ℕ) (a b : Bool) → eqb reg 0 ≡ a → eqb reg 4 ≡ b → (set_in s reg word).receiver ≡ s.receiver
+pub set_receiver : (s : UartState) (reg word : ℕ) (a b : Bool) → eqb reg 0 ≡ a → eqb reg 4 ≡ b → (set_in s reg word).receiver ≡ s.receiver
 set_receiver s reg word true b p q = rw p refl
 set_receiver s reg word false true p q = rw (p, q) (appended_receiver s _ _ refl)
 set_receiver s reg word false false p q = rw (p, q) refl
 
 -- what both parts of a cycle do
-record WorksAlong (s : State) (g : Given State) : Type 0 where
+record WorksAlong (s : UartState) (g : Given UartState) : Type 0 where
   bytes : to_come s.receiver ≡ byte_up g.up ++ to_come g.unit.receiver
   steps : PassesOne s.receiver.steps g.unit.receiver.steps
 
-received_along : (s : State) (g : Given State) (now : ℕ) → LeavesReceiver s g → 0 < g.unit.bit → WorksAlong s (received g now)
+received_along : (s : UartState) (g : Given UartState) (now : ℕ) → LeavesReceiver s g → 0 < g.unit.bit → WorksAlong s (received g now)
 received_along s g now l p = record {
   bytes = ap to_come (sym l.receiver)
       ∙ receive_keeps g.unit.receiver now g.event g.unit.enabled (frame_of g.unit) (omega (arith, p))
@@ -210,10 +210,10 @@ received_along s g now l p = record {
       (receive_steps g.unit.receiver now g.event g.unit.enabled (frame_of g.unit));
 }
 
-works_along : (s : State) (now : ℕ) → 0 < (sent (begun s) now).unit.bit → WorksAlong s (received (sent (begun s) now) now)
+works_along : (s : UartState) (now : ℕ) → 0 < (sent (begun s) now).unit.bit → WorksAlong s (received (sent (begun s) now) now)
 works_along s now p = received_along s (sent (begun s) now) now (transmitter_leaves s now) p
 
-pub keeps_script : (s : State) (now : ℕ) (down : Option Down) → 0 < (unit_cycle s now down).unit.bit
+pub keeps_script : (s : UartState) (now : ℕ) (down : Option Down) → 0 < (unit_cycle s now down).unit.bit
     → KeepsScript s down (unit_cycle s now down).unit (unit_cycle s now down).up
 unfolding unit_cycle
 keeps_script s now None p =
@@ -230,6 +230,6 @@ keeps_script s now (Some (Set reg word)) p =
     }
 
 -- the same, where the unit after the cycle and its message are known by equations
-pub script_kept : (s : State) (now : ℕ) (down : Option Down) (new : State) (up : Option Up) → 0 < new.bit
+pub script_kept : (s : UartState) (now : ℕ) (down : Option Down) (new : UartState) (up : Option Up) → 0 < new.bit
     → new ≡ (unit_cycle s now down).unit → up ≡ (unit_cycle s now down).up → KeepsScript s down new up
 script_kept s now down new up p e u = rw (e, u) (keeps_script s now down (subst (λ s. 0 < s.bit) e p))

@@ -1,4 +1,4 @@
--- The state of a UART unit's receiver.
+-- The state of a UART unit's receiver: a definition.
 use Rattle.std.specs.Prelude.{ℕ, List, []}
 use Rattle.chip_base.specs.declared.script.UartStep.{UartStep}
 

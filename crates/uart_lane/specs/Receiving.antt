@@ -1,4 +1,4 @@
--- One cycle of a UART unit's receiver.
+-- One cycle of a UART unit's receiver: a definition.
 use Rattle.std.specs.Prelude.{◌==◌, ℕ, ◌+◌, ◌-◌, Bool, false, nat_le, eqb, List, [], ◌∷◌, ◌++◌, length, drop, slice_get, Option, None, Some, if◌then◌else◌}
 use Rattle.std.specs.List.{ends_with}
 use Rattle.chip_base.specs.declared.event.Event.{Event}

@@ -1,4 +1,4 @@
--- What a cycle does to the script of a UART unit.
+-- What a cycle does to the script of a UART unit: a law over definitions.
 use Rattle.std.specs.Prelude.{◌≡◌, ◌==◌, ◌≤◌, ◌⊎◌, ℕ, eqb, List, [], ◌∷◌, ◌++◌, length, drop, Option, None, Some, if◌then◌else◌}
 use Rattle.std.specs.List.{ends_with}
 use Rattle.chip_base.specs.declared.message.Down.{Down}
@@ -7,7 +7,7 @@ use Rattle.chip_base.specs.declared.script.UartStep.{UartStep}
 use Rattle.chip_base.specs.Messages.{reset_in}
 use Rattle.uart_lane.specs.Receiver.{Receiver}
 use Rattle.uart_lane.specs.Receiving.{bytes_of, last_64}
-use Rattle.uart_lane.specs.State.{State}
+use Rattle.uart_lane.specs.State.{UartState}
 
 -- all bytes that these steps send, one step after another, without the first ones of the first step
 abbrev pub sent_by : List ℕ → ℕ → List UartStep → List ℕ
@@ -32,7 +32,7 @@ byte_up None = []
 byte_up (Some up) = if up.has then up.word ∷ [] else []
 
 -- the bytes of the script go up in its order, each once
-pub record KeepsScript (old : State) (down : Option Down) (new : State) (up : Option Up) : Type 0 where
+pub record KeepsScript (old : UartState) (down : Option Down) (new : UartState) (up : Option Up) : Type 0 where
   pub bytes : reset_in down ≡ 0 → to_come old.receiver ≡ byte_up up ++ to_come new.receiver
   -- a Reset loses the byte of a frame that runs, and no other
   pub after_reset : reset_in down ≡ 1 → not_begun old.receiver ≡ byte_up up ++ to_come new.receiver

@@ -1,9 +1,9 @@
--- The state of a UART unit.
+-- The state of a UART unit: a definition.
 use Rattle.std.specs.Prelude.{ℕ, Bool, false, List, []}
 use Rattle.chip_base.specs.declared.script.UartStep.{UartStep}
 use Rattle.uart_lane.specs.Receiver.{Receiver, at_first, dropped}
 
-pub record State : Type 0 where
+pub record UartState : Type 0 where
   -- the unit's number in events
   pub number : ℕ
   pub enabled : Bool
@@ -17,9 +17,9 @@ pub record State : Type 0 where
   pub receiver : Receiver
 
 -- disabled, with the settings of a control word of zero, and without a frame; the script's place stays
-abbrev pub reset_state : ℕ → Receiver → State
+abbrev pub reset_state : ℕ → Receiver → UartState
 reset_state number receiver = record { number = number; enabled = false; bit = 2; fifo = []; left = 0; receiver = dropped receiver }
 
 -- the unit at power-on, with these steps to come and these bytes for an image step
-abbrev pub power_on : ℕ → List UartStep → List ℕ → State
+abbrev pub power_on : ℕ → List UartStep → List ℕ → UartState
 power_on number steps image = reset_state number (at_first steps image)

@@ -8,12 +8,6 @@ use chip_base::prescaler::prescaler;
 use chip_base::{Bytes, Cycle, Down, Event, EventKind, Steps0, UnitOut, Up};
 use std::marker::Model;
 
-/// A cycle in which nothing leaves the unit.
-const QUIET: UnitOut = UnitOut {
-    up: None,
-    event: None,
-};
-
 /// A UART unit: it sends the bytes that it is given, and receives those of a script, one frame of ten bits after another.
 ///
 /// At most sixteen bytes wait to be sent; one more is lost. No call takes memory.
@@ -30,9 +24,9 @@ pub struct Uart {
 impl Model for Uart {
     ghost use Rattle.std.specs.Prelude.{◌≤◌, ◌<◌};
     ghost use Rattle.arrayvec.specs.ArrayVec.{array_vec_len};
-    ghost use Rattle.uart_lane.specs.State.{State};
+    ghost use Rattle.uart_lane.specs.State.{UartState};
 
-    ghost Value = { State };
+    ghost Value = { UartState };
 
     ghost view = { λ u. record { number = u.number; enabled = u.enabled; bit = u.bit; fifo = u.fifo.items; left = u.left; receiver = u.receiver } };
 
@@ -163,11 +157,11 @@ impl Uart {
         ensures byte { IfSome result.event (λ e. e.value < 256) }
     {
         match self.left {
-            0 => QUIET,
+            0 => UnitOut::QUIET,
             1 => self.end(now),
             left => {
                 self.left = left - 1;
-                QUIET
+                UnitOut::QUIET
             }
         }
     }
