@@ -1,10 +1,12 @@
 -- Over many cycles an output of a pulse-width modulation unit is high in the first cycles of each period.
-use Rattle.std.proofs.Common.{◌≡◌, ◌≤◌, ◌<◌, ℕ, zero, suc, ◌+◌, ◌*◌, ◌%◌, ◌&&◌, ltb, leb, cond, Bool, true, false, List, [], ◌∷◌, get_or, refl, sym, ap, subst, ◌∙◌, arith}
+use Rattle.std.proofs.Common.{◌≡◌, ◌≤◌, ◌<◌, ℕ, zero, suc, ◌+◌, ◌*◌, ◌%◌, ◌&&◌, ltb, leb, cond, Bool, true, false, List, [], ◌∷◌, get_or, None, refl, sym, ap, subst, ◌∙◌, arith}
 use Rattle.std.proofs.Math.Nat.{mod-eq_of_lt, mod_self, mul-le-mul_right, suc-mod, zero-mod}
 use Rattle.std.specs.Int.{bit_at}
+use Rattle.chip_base.specs.Runs.{given_after, never, unit_after}
+use Rattle.chip_base.proofs.Runs.{after_more, after_none}
 use Rattle.board_units.specs.PwmState.{PwmState}
 use Rattle.board_units.specs.PwmCycle.{is_high, mask_of, counted, pwm_cycle}
-use Rattle.board_units.specs.PwmWave.{unit_before, Begins, MakesWave}
+use Rattle.board_units.specs.PwmWave.{Begins, MakesWave}
 use Rattle.board_units.proofs.Compared.{is_at_most, is_later, below, not_below, is_below, is_from}
 
 -- the unit that makes a wave, k cycles after its beginning
@@ -64,16 +66,21 @@ next-within : (p : ℕ) (duties : List ℕ) (k : ℕ) (u : PwmState) (mask : ℕ
     → Within p duties (suc k) (counted (record u { mask = mask }))
 next-within p duties k u mask q w = next-within_by p duties k u mask _ refl q w
 
-next-unit : (s : PwmState) (t k : ℕ)
-    → unit_before s t (suc k) ≡ counted (record (unit_before s t k) { mask = mask_of (unit_before s t k) })
-unfolding unit_before pwm_cycle
-next-unit s t k = refl
+-- a unit that is given no message
+abbrev alone : PwmState → ℕ → ℕ → PwmState
+alone s t k = unit_after pwm_cycle s t never k
 
-first-unit : (s : PwmState) (t : ℕ) → unit_before s t 0 ≡ s
-unfolding unit_before
-first-unit s t = refl
+cycle-alone : (s : PwmState) (now : ℕ) → (pwm_cycle s now None).unit ≡ counted (record s { mask = mask_of s })
+unfolding pwm_cycle
+cycle-alone s now = refl
 
-within : (s : PwmState) (t k : ℕ) → 0 < s.prescaler → Begins s → Within s.prescaler s.duties k (unit_before s t k)
+next-unit : (s : PwmState) (t k : ℕ) → alone s t (suc k) ≡ counted (record (alone s t k) { mask = mask_of (alone s t k) })
+next-unit s t k = after_more pwm_cycle s t never k ∙ cycle-alone (alone s t k) (t + k)
+
+first-unit : (s : PwmState) (t : ℕ) → alone s t 0 ≡ s
+first-unit s t = after_none pwm_cycle s t never
+
+within : (s : PwmState) (t k : ℕ) → 0 < s.prescaler → Begins s → Within s.prescaler s.duties k (alone s t k)
 within s t zero q b = subst (Within s.prescaler s.duties 0) (sym (first-unit s t)) record {
   enabled = b.enabled;
   prescaler = refl;
@@ -85,7 +92,7 @@ within s t zero q b = subst (Within s.prescaler s.duties 0) (sym (first-unit s t
   in_period = subst (λ c. c < 256) (sym b.no_step) (omega arith);
 }
 within s t (suc k) q b = subst (Within s.prescaler s.duties (suc k)) (sym (next-unit s t k))
-    (next-within s.prescaler s.duties k (unit_before s t k) (mask_of (unit_before s t k)) q (within s t k q b))
+    (next-within s.prescaler s.duties k (alone s t k) (mask_of (alone s t k)) q (within s t k q b))
 
 counted-mask_by : (u : PwmState) (on full : Bool) → u.enabled ≡ on → leb u.prescaler (u.count + 1) ≡ full → (counted u).mask ≡ u.mask
 counted-mask_by u true true p q = rw (p, q) refl
@@ -156,6 +163,6 @@ high-is p duties k u channel w =
 pub makes_wave : (s : PwmState) (period : ℕ) → period ≡ 256 * s.prescaler → 0 < s.prescaler → MakesWave s period
 makes_wave s period e q b t k channel h = rw e
     (ap (λ u. bit_at u.mask channel) (next-unit s t k)
-    ∙ ap (λ m. bit_at m channel) (counted-mask (record (unit_before s t k) { mask = mask_of (unit_before s t k) }))
-    ∙ mask-bit (unit_before s t k) channel h
-    ∙ ap one (high-is s.prescaler s.duties k (unit_before s t k) channel (within s t k q b)))
+    ∙ ap (λ m. bit_at m channel) (counted-mask (record (alone s t k) { mask = mask_of (alone s t k) }))
+    ∙ mask-bit (alone s t k) channel h
+    ∙ ap one (high-is s.prescaler s.duties k (alone s t k) channel (within s t k q b)))

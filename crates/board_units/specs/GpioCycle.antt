@@ -1,5 +1,5 @@
--- One cycle of the unit of the general-purpose pins.
-use Rattle.std.specs.Prelude.{◌==◌, ℕ, ◌^◌, nat_le, List, [], ◌∷◌, Option, None, Some, if◌then◌else◌, bit_and, bit_or}
+-- One cycle of the unit of the general-purpose pins: a definition.
+use Rattle.std.specs.Prelude.{◌==◌, ℕ, ◌^◌, nat_lt, List, [], ◌∷◌, Option, None, Some, if◌then◌else◌, bit_and, bit_or}
 use Rattle.std.specs.Int.{w32, bit_not}
 use Rattle.chip_base.specs.Given.{Given}
 use Rattle.chip_base.specs.declared.message.Down.{Down}
@@ -13,15 +13,16 @@ use Rattle.board_units.specs.Messages.{change_event, done_with, word_up}
 abbrev pub with_level : ℕ → PinStep → ℕ
 with_level inputs p = if p.level then bit_or inputs (2 ^ p.pin) else bit_and inputs (bit_not w32 (2 ^ p.pin))
 
--- the inputs after the pin changes up to a cycle, in their order
+-- the inputs after the pin changes of a cycle, in their order; those of earlier cycles are passed over, and the list's rest is of later ones
 abbrev pub inputs_after : ℕ → List PinStep → ℕ → ℕ
 inputs_after now [] inputs = inputs
-inputs_after now (p ∷ rest) inputs = if nat_le p.cycle now then inputs_after now rest (with_level inputs p) else inputs
+inputs_after now (p ∷ rest) inputs =
+    if nat_lt now p.cycle then inputs else inputs_after now rest (if p.cycle == now then with_level inputs p else inputs)
 
 -- the pin changes of later cycles
 abbrev pub still_to_come : ℕ → List PinStep → List PinStep
 still_to_come now [] = []
-still_to_come now (p ∷ rest) = if nat_le p.cycle now then still_to_come now rest else p ∷ rest
+still_to_come now (p ∷ rest) = if nat_lt now p.cycle then p ∷ rest else still_to_come now rest
 
 -- after the script's pin changes of a cycle
 abbrev pub moved : GpioState → ℕ → GpioState
@@ -39,7 +40,7 @@ input_up before after None = if before == after then None else Some (word_up aft
 input_up before after (Some Reset) = Some (done_with after)
 input_up before after (Some (Set reg word)) = if before == after then None else Some (word_up after)
 
--- one cycle: the pins first, then the message
+-- one cycle: the message gives the outputs, and the script's pins of this cycle change the inputs, also with a Reset
 unfoldable pub gpio_cycle : GpioState → ℕ → Option Down → Given GpioState
 gpio_cycle s now down = record {
   unit = record (moved s now) { outputs = outputs_after s.outputs down };

@@ -1,4 +1,4 @@
--- The state of the unit of the general-purpose pins.
+-- The state of the unit of the general-purpose pins: a definition.
 use Rattle.std.specs.Prelude.{ℕ, List}
 use Rattle.chip_base.specs.declared.script.PinStep.{PinStep}
 

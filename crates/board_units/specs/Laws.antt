@@ -1,4 +1,4 @@
--- What holds of each cycle of a unit without entries.
+-- What holds of each cycle of a unit without entries: laws over definitions.
 use Rattle.std.specs.Prelude.{◌≡◌, ◌≢◌, ℕ, Option, None, Some}
 use Rattle.chip_base.specs.declared.event.Event.{Event}
 use Rattle.chip_base.specs.declared.event.EventKind.TheVariants.{Out}

@@ -1,4 +1,4 @@
--- What the units say in a cycle.
+-- What the units say in a cycle: a definition.
 use Rattle.std.specs.Prelude.{◌==◌, ℕ, Option, None, Some, if◌then◌else◌}
 use Rattle.chip_base.specs.declared.event.Event.{Event}
 use Rattle.chip_base.specs.declared.event.EventKind.TheVariants.{Out}

@@ -1,4 +1,4 @@
--- One cycle of the pulse-width modulation unit.
+-- One cycle of the pulse-width modulation unit: a definition.
 use Rattle.std.specs.Prelude.{◌==◌, ℕ, ◌+◌, ◌%◌, ◌^◌, Bool, ◌&&◌, nat_lt, nat_le, get_or, set, Option, None, Some, if◌then◌else◌}
 use Rattle.chip_base.specs.Given.{Given}
 use Rattle.chip_base.specs.declared.message.Down.{Down}

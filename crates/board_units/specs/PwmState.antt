@@ -1,4 +1,4 @@
--- The state of the pulse-width modulation unit.
+-- The state of the pulse-width modulation unit: a definition.
 use Rattle.std.specs.Prelude.{ℕ, Bool, false, List, [], ◌∷◌}
 
 pub record PwmState : Type 0 where

@@ -46,7 +46,7 @@ fn level(inputs: u32, step: PinStep) -> u32
     }
 }
 
-/// How many pin changes have come, and the inputs after them.
+/// How many pin changes are of this cycle or earlier, and the inputs after those of this cycle.
 fn change_inputs(steps: &[PinStep], now: Cycle, inputs: u32) -> (usize, u32)
     requires pins { list_all is_pin steps.now ≡ true }
     ensures count { result.0 ≤ length steps.now }
@@ -59,14 +59,16 @@ fn change_inputs(steps: &[PinStep], now: Cycle, inputs: u32) -> (usize, u32)
         if step.cycle > now {
             return (count, levels);
         }
-        levels = level(levels, *step);
+        if step.cycle == now {
+            levels = level(levels, *step);
+        }
         count += 1;
     }
     (count, levels)
 }
 
 impl Gpio {
-    ghost use Rattle.board_units.specs.GpioScript.{FollowsScript};
+    ghost use Rattle.board_units.specs.GpioScript.{ChangesNow, FollowsScript};
     ghost use Rattle.board_units.specs.GpioState.{power_on};
     ghost use Rattle.board_units.specs.GpioCycle.{moved, input_up, gpio_cycle};
     ghost use Rattle.board_units.specs.Laws.{AnswersResets, TellsChange};
@@ -94,14 +96,16 @@ impl Gpio {
         self.inputs = inputs;
     }
 
-    /// One cycle: the script's pin changes up to this cycle that haven't come yet first, then the message that arrives in it, if
-    /// there is one. Where the unit is given each cycle in turn, as in a chip, these are the pin changes of this cycle alone.
+    /// One cycle: takes the message that arrives in it, if there is one, and the script's pin changes of this very cycle, also in
+    /// that of a Reset. Pin changes of earlier cycles that the unit wasn't given are passed over without effect.
+    ///
     /// Gives what leaves the unit: the inputs, where they changed or a Reset was done, and the event of a change of the outputs.
-    #[tactic(auto, unfolding(crate::specs::GpioCycle::gpio_cycle))]
+    #[tactic(auto, unfolding(crate::specs::GpioCycle::gpio_cycle), using(crate::proofs::Script::changes_now))]
     pub fn cycle(&mut self, now: Cycle, down: Option<Down>) -> UnitOut
         ensures unit { self.new ≡ (gpio_cycle self.old now down).unit }
         ensures up { result.up ≡ (gpio_cycle self.old now down).up }
         ensures event { result.event ≡ (gpio_cycle self.old now down).event }
+        ensures pins { ChangesNow self.old now self.new.inputs }
         ensures answers { AnswersResets down result.up }
         ensures tells { TellsChange now 4 self.old.outputs self.new.outputs result.event }
     {
