@@ -1,315 +1,257 @@
+//! Units that are given messages cycle by cycle, and all that they say.
+
 use crate::Uart;
 use chip_base::{Bytes, Cycle, Down, Event, EventKind, Steps0, UartStep, UnitOut, Up};
 use std::alloc::Global;
 use std::process::Abort;
 use std::test::Fail;
 
-const fn set(reg: u8, word: u32) -> Option<Down> {
-    Some(Down::Set { reg, word })
+/// A step of a script, by its text.
+#[derive(Clone, Copy)]
+enum Step<'a> {
+    At(Cycle),
+    Expect(&'a [u8]),
+    Send(&'a [u8]),
+    Image,
 }
 
-/// What a unit gives in the cycle in which this byte has left.
-const fn sent(cycle: Cycle, value: u32) -> UnitOut {
-    UnitOut {
-        up: Some(Up {
-            done: false,
-            fire: false,
-            credit: true,
-            has: false,
-            word: 0,
-        }),
-        event: Some(Event {
-            cycle,
-            unit: 1,
-            kind: EventKind::Tx,
-            value,
-        }),
-    }
+/// What a unit says in a cycle.
+#[derive(Clone, Copy)]
+enum Said {
+    /// A byte left it, with its credit.
+    Sent(u32),
+    Received(u32),
+    /// The first byte left it, and the second was received.
+    Both(u32, u32),
+    Done,
 }
 
-/// A unit is given a control word in cycle 0 and the bytes A and B in cycles 1 and 2. Each leaves in the cycle of the table.
-#[test]
-fn frames(rt: HostRuntime) {
-    // prescaler 2 and baud 0; prescaler 4 and baud 0; prescaler 2 and baud 277, 556 cycles for each bit
-    for (control, first, second) in [(0x1, 20, 40), (0x9, 40, 80), (0x4541, 5_560, 11_120)] {
-        let steps = Steps0::from_vec(Vec::new(rt.alloc())).unwrap();
-        let image = Bytes::from_vec(Vec::new(rt.alloc()));
-        let mut uart = Uart::new(1, steps, image);
-        for now in 0..12_000 {
-            let down = match now {
-                0 => set(0, control),
-                1 => set(4, 0x41),
-                2 => set(4, 0x42),
-                _ => None,
-            };
-            let out = uart.cycle(now, down);
-            let quiet = UnitOut {
-                up: None,
-                event: None,
-            };
-            let wanted = if now == first {
-                sent(now, 0x41)
-            } else if now == second {
-                sent(now, 0x42)
-            } else {
-                quiet
-            };
-            assert_eq!(rt; out, wanted, "in {now}");
-        }
-    }
-}
-
-fn bytes(alloc: Global, text: &[u8]) -> Result<Bytes, Fail> {
-    Ok(Bytes::from_vec(Vec::from_slice(alloc, text)?))
-}
-
-fn sends(alloc: Global, text: &[u8]) -> Result<UartStep, Fail> {
-    Ok(UartStep::Send(bytes(alloc, text)?))
-}
-
-fn expects(alloc: Global, text: &[u8]) -> Result<UartStep, Fail> {
-    Ok(UartStep::Expect(bytes(alloc, text)?))
+#[derive(Clone, Copy)]
+struct Case<'a> {
+    steps: &'a [Step<'a>],
+    downs: &'a [(Cycle, Down)],
+    says: &'a [(Cycle, Said)],
 }
 
 /// Enables a unit with frames of twenty cycles.
 const ENABLE: Down = Down::Set { reg: 0, word: 1 };
 
-const fn data(byte: u32) -> Down {
-    Down::Set { reg: 4, word: byte }
+/// Disables a unit, and gives it frames of forty cycles.
+const DISABLE: Down = Down::Set { reg: 0, word: 8 };
+
+/// Enables a unit with frames of forty cycles.
+const ENABLE_LONGER: Down = Down::Set { reg: 0, word: 9 };
+
+const A: Down = Down::Set { reg: 4, word: 0x41 };
+
+const B: Down = Down::Set { reg: 4, word: 0x42 };
+
+const C: Down = Down::Set { reg: 4, word: 0x43 };
+
+fn bytes(alloc: Global, text: &[u8]) -> Result<Bytes, Fail> {
+    Ok(Bytes::from_vec(Vec::from_slice(alloc, text)?))
 }
 
-/// Gives uart0 with these steps and the image `yz` these messages, and looks for exactly these received bytes in 200 cycles.
-fn receives(
-    rt: &impl Abort,
-    alloc: Global,
-    steps: Vec<UartStep>,
-    downs: &[(Cycle, Down)],
-    wanted: &[(Cycle, u32)],
-) -> Result<(), Fail> {
-    let steps = Steps0::from_vec(steps).expect(rt, "a valid script");
-    let mut uart = Uart::new(1, steps, bytes(alloc, b"yz")?);
-    for now in 0..200 {
-        let mut down = None;
-        for (cycle, message) in downs {
-            if *cycle == now {
-                down = Some(*message);
-            }
-        }
-        let mut byte = None;
-        for (cycle, word) in wanted {
-            if *cycle == now {
-                byte = Some(*word);
-            }
-        }
-        let received = match uart.cycle(now, down).up {
-            Some(up) if up.has => Some(up.word),
-            _ => None,
-        };
-        assert_eq!(rt; received, byte, "in {now}");
+fn uart_step(alloc: Global, step: Step) -> Result<UartStep, Fail> {
+    Ok(match step {
+        Step::At(cycle) => UartStep::At(cycle),
+        Step::Expect(text) => UartStep::Expect(bytes(alloc, text)?),
+        Step::Send(text) => UartStep::Send(bytes(alloc, text)?),
+        Step::Image => UartStep::Image,
+    })
+}
+
+/// The unit uart0 with these steps and the image `yz`.
+fn unit(rt: &impl Abort, alloc: Global, steps: &[Step]) -> Result<Uart, Fail> {
+    let mut all = Vec::new(alloc);
+    for next in steps {
+        all.push(uart_step(alloc, *next)?)?;
     }
-    Ok(())
+    let steps = Steps0::from_vec(all).expect(rt, "a valid script");
+    Ok(Uart::new(1, steps, bytes(alloc, b"yz")?))
 }
 
-/// A frame begins where the unit is enabled. Two sends and an image follow one another without a gap.
-#[test]
-fn bytes_of_the_script(rt: HostRuntime) -> Result<(), Fail> {
-    let alloc = rt.alloc();
-    let steps = vec![in alloc; sends(alloc, b"AB")?, UartStep::Image, sends(alloc, b"c")?]?;
-    let wanted = [(24, 0x41), (44, 0x42), (64, 0x79), (84, 0x7a), (104, 0x63)];
-    receives(&rt, alloc, steps, &[(5, ENABLE)], &wanted)
-}
-
-/// Steps that pass at once take a cycle each, also a send of no byte.
-#[test]
-fn a_step_in_a_cycle(rt: HostRuntime) -> Result<(), Fail> {
-    let alloc = rt.alloc();
-    let steps = vec![in alloc;
-        UartStep::At(0),
-        UartStep::At(1),
-        UartStep::At(0),
-        sends(alloc, b"")?,
-        sends(alloc, b"x")?,
-    ]?;
-    receives(&rt, alloc, steps, &[(0, ENABLE)], &[(23, 0x78)])
-}
-
-/// The bytes A and B leave in the cycles 20 and 40. The text AB passes in cycle 40, and x begins in cycle 41.
-#[test]
-fn text_of_two_frames(rt: HostRuntime) -> Result<(), Fail> {
-    let alloc = rt.alloc();
-    let steps = vec![in alloc; expects(alloc, b"AB")?, sends(alloc, b"x")?]?;
-    let downs = [(0, ENABLE), (1, data(0x41)), (2, data(0x42))];
-    receives(&rt, alloc, steps, &downs, &[(60, 0x78)])
-}
-
-/// A byte counts for the step that is current before its cycle. A step that waits for cycle 39 leaves the one of cycle 40 to the
-/// next step, and one that waits for cycle 40 doesn't.
-#[test]
-fn byte_of_the_current_step(rt: HostRuntime) -> Result<(), Fail> {
-    let alloc = rt.alloc();
-    let downs = [(0, ENABLE), (1, data(0x41)), (2, data(0x42))];
-    let heard = vec![in alloc;
-        UartStep::At(39),
-        expects(alloc, b"B")?,
-        sends(alloc, b"x")?,
-    ]?;
-    receives(&rt, alloc, heard, &downs, &[(60, 0x78)])?;
-    let late = vec![in alloc;
-        UartStep::At(40),
-        expects(alloc, b"B")?,
-        sends(alloc, b"x")?,
-    ]?;
-    receives(&rt, alloc, late, &downs, &[])
-}
-
-/// A Reset in cycle 10 drops the frame of x. It counts as sent, also where it was the last of its step, which then passes in
-/// cycle 11.
-#[test]
-fn frame_that_a_reset_drops(rt: HostRuntime) -> Result<(), Fail> {
-    let alloc = rt.alloc();
-    let downs = [(0, ENABLE), (10, Down::Reset), (11, ENABLE)];
-    let two = vec![in alloc; sends(alloc, b"xy")?, sends(alloc, b"z")?]?;
-    receives(&rt, alloc, two, &downs, &[(30, 0x79), (50, 0x7a)])?;
-    let one = vec![in alloc; sends(alloc, b"x")?, sends(alloc, b"z")?]?;
-    receives(&rt, alloc, one, &downs, &[(31, 0x7a)])
-}
-
-/// A text may begin before a Reset and end after it: A leaves in cycle 20, B in cycle 46.
-#[test]
-fn text_around_a_reset(rt: HostRuntime) -> Result<(), Fail> {
-    let alloc = rt.alloc();
-    let steps = vec![in alloc; expects(alloc, b"AB")?, sends(alloc, b"x")?]?;
-    let downs = [
-        (0, ENABLE),
-        (1, data(0x41)),
-        (25, Down::Reset),
-        (26, ENABLE),
-        (27, data(0x42)),
-    ];
-    receives(&rt, alloc, steps, &downs, &[(66, 0x78)])
-}
-
-/// In cycle 60 the byte C has left and x was received: one message says both.
-#[test]
-fn both_in_one_message(rt: HostRuntime) -> Result<(), Fail> {
-    let alloc = rt.alloc();
-    let steps = vec![in alloc; expects(alloc, b"B")?, sends(alloc, b"x")?]?;
-    let steps = Steps0::from_vec(steps).expect(&rt, "a valid script");
-    let mut uart = Uart::new(1, steps, bytes(alloc, b"")?);
-    for now in 0..60 {
-        let down = match now {
-            0 => Some(ENABLE),
-            1 => Some(data(0x41)),
-            2 => Some(data(0x42)),
-            3 => Some(data(0x43)),
-            _ => None,
-        };
-        uart.cycle(now, down);
+fn message(downs: &[(Cycle, Down)], now: Cycle) -> Option<Down> {
+    for (cycle, down) in downs {
+        if *cycle == now {
+            return Some(*down);
+        }
     }
-    let wanted = Up {
-        done: false,
-        fire: false,
-        credit: true,
+    None
+}
+
+const fn sent(cycle: Cycle, value: u32) -> Option<Event> {
+    Some(Event {
+        cycle,
+        unit: 1,
+        kind: EventKind::Tx,
+        value,
+    })
+}
+
+const fn received(word: u32) -> Up {
+    Up {
         has: true,
-        word: 0x78,
-    };
-    assert_eq!(rt; uart.cycle(60, None).up, Some(wanted));
-    Ok(())
+        word,
+        ..Up::SILENT
+    }
 }
 
-/// A text counts from the cycle on in which its step becomes current: A has left in cycle 20, the step that waits for cycle 30
-/// passes after it, and B, which leaves in cycle 40, is no AB.
-#[test]
-fn text_that_begins_too_early(rt: HostRuntime) -> Result<(), Fail> {
-    let alloc = rt.alloc();
-    let steps = vec![in alloc;
-        UartStep::At(30),
-        expects(alloc, b"AB")?,
-        sends(alloc, b"x")?,
-    ]?;
-    let downs = [(0, ENABLE), (1, data(0x41)), (2, data(0x42))];
-    receives(&rt, alloc, steps, &downs, &[])
+const fn both(word: u32) -> Up {
+    Up {
+        credit: true,
+        ..received(word)
+    }
 }
 
-/// The cycles and values of all events in `cycles` cycles, for a unit without a script that is given these messages.
-fn looks_for_events(
-    rt: &impl Abort,
-    alloc: Global,
-    cycles: Cycle,
-    downs: &[(Cycle, Down)],
-    wanted: &[(Cycle, u32)],
-) -> Result<(), Fail> {
-    let steps = Steps0::from_vec(Vec::new(alloc)).expect(rt, "a valid script");
-    let mut uart = Uart::new(1, steps, bytes(alloc, b"")?);
-    for now in 0..cycles {
-        let mut down = None;
-        for (cycle, message) in downs {
-            if *cycle == now {
-                down = Some(*message);
-            }
+fn out(says: &[(Cycle, Said)], now: Cycle) -> UnitOut {
+    for (cycle, said) in says {
+        if *cycle == now {
+            let (up, event) = match *said {
+                Said::Sent(byte) => (Up::CREDIT, sent(now, byte)),
+                Said::Received(byte) => (received(byte), None),
+                Said::Both(byte, word) => (both(word), sent(now, byte)),
+                Said::Done => (Up::DONE, None),
+            };
+            return UnitOut {
+                up: Some(up),
+                event,
+            };
         }
-        let mut out = UnitOut {
-            up: None,
-            event: None,
+    }
+    UnitOut::QUIET
+}
+
+/// Looks at 12,000 cycles.
+fn runs(rt: &impl Abort, uart: &mut Uart, case: &Case) {
+    for now in 0..12_000 {
+        let given = uart.cycle(now, message(case.downs, now));
+        assert_eq!(rt; given, out(case.says, now), "in {now}");
+    }
+}
+
+/// Steps that pass at once take a cycle each, also a send of no byte. A text counts from the cycle after the one in which its step
+/// becomes the current one: the A of cycle 20 and the C of cycle 180 come too early.
+const SCRIPT: Case<'static> = Case {
+    steps: &[
+        Step::At(0),
+        Step::At(1),
+        Step::At(0),
+        Step::Send(b""),
+        Step::Send(b"x"),
+        Step::Image,
+        Step::Expect(b"AB"),
+        Step::Send(b"w"),
+        Step::At(180),
+        Step::Expect(b"C"),
+        Step::Send(b"v"),
+    ],
+    downs: &[
+        (0, ENABLE),
+        (1, A),
+        (64, B),
+        (84, A),
+        (85, B),
+        (161, C),
+        (181, C),
+    ],
+    says: &[
+        (20, Said::Sent(0x41)),
+        (23, Said::Received(0x78)),
+        (43, Said::Received(0x79)),
+        (63, Said::Received(0x7a)),
+        (83, Said::Sent(0x42)),
+        (103, Said::Sent(0x41)),
+        (123, Said::Sent(0x42)),
+        (143, Said::Received(0x77)),
+        (180, Said::Sent(0x43)),
+        (200, Said::Sent(0x43)),
+        (220, Said::Received(0x76)),
+    ],
+};
+
+/// A Reset drops the frame of x, and later that of z, whose step passes in cycle 36. A text may begin before a Reset and end after it.
+const RESETS: Case<'static> = Case {
+    steps: &[
+        Step::Send(b"xy"),
+        Step::Send(b"z"),
+        Step::Expect(b"AB"),
+        Step::Send(b"w"),
+    ],
+    downs: &[
+        (0, ENABLE),
+        (10, Down::Reset),
+        (11, ENABLE),
+        (35, Down::Reset),
+        (36, ENABLE),
+        (37, A),
+        (60, Down::Reset),
+        (61, ENABLE),
+        (62, B),
+    ],
+    says: &[
+        (10, Said::Done),
+        (30, Said::Received(0x79)),
+        (35, Said::Done),
+        (56, Said::Sent(0x41)),
+        (60, Said::Done),
+        (81, Said::Sent(0x42)),
+        (101, Said::Received(0x77)),
+    ],
+};
+
+/// Frames of both sides begin in cycle 5 and keep their length where the unit is disabled. The next ones begin where it is enabled.
+const DISABLED: Case<'static> = Case {
+    steps: &[Step::Send(b"xy")],
+    downs: &[
+        (1, A),
+        (2, B),
+        (5, ENABLE),
+        (8, DISABLE),
+        (100, ENABLE_LONGER),
+    ],
+    says: &[(24, Said::Both(0x41, 0x78)), (139, Said::Both(0x42, 0x79))],
+};
+
+/// Prescaler 2 and baud 277: 556 cycles for each bit.
+const STANDARD: Case<'static> = Case {
+    steps: &[],
+    downs: &[
+        (
+            0,
+            Down::Set {
+                reg: 0,
+                word: 0x4541,
+            },
+        ),
+        (1, A),
+        (2, B),
+    ],
+    says: &[(5_560, Said::Sent(0x41)), (11_120, Said::Sent(0x42))],
+};
+
+/// Gives a disabled unit seventeen bytes, and then enables it: how many bytes leave.
+fn leave(uart: &mut Uart) -> u32 {
+    let mut count: u32 = 0;
+    for now in 0..400 {
+        let down = match now {
+            0..17 => A,
+            _ => ENABLE,
         };
-        for (cycle, value) in wanted {
-            if *cycle == now {
-                out = sent(now, *value);
-            }
+        if uart.cycle(now, Some(down)).event.is_some() {
+            count = count.saturating_add(1);
         }
-        assert_eq!(rt; uart.cycle(now, down), out, "in {now}");
     }
+    count
+}
+
+#[test]
+fn cases(rt: HostRuntime) -> Result<(), Fail> {
+    for case in [SCRIPT, RESETS, DISABLED, STANDARD] {
+        let mut uart = unit(&rt, rt.alloc(), case.steps)?;
+        runs(&rt, &mut uart, &case);
+    }
+    let mut uart = unit(&rt, rt.alloc(), &[])?;
+    assert_eq!(rt; leave(&mut uart), 16);
     Ok(())
-}
-
-/// A disabled unit keeps the byte of cycle 1. Its frame of twenty cycles begins in cycle 5, in which the unit is enabled.
-#[test]
-fn byte_before_the_unit_is_enabled(rt: HostRuntime) -> Result<(), Fail> {
-    let downs = [(1, data(0x41)), (5, ENABLE)];
-    looks_for_events(&rt, rt.alloc(), 100, &downs, &[(24, 0x41)])
-}
-
-/// A unit that is disabled in cycle 5, with a control word of longer frames, sends A in the frame of twenty cycles that began in
-/// cycle 1. B waits until the unit is enabled again, with frames of forty cycles.
-#[test]
-fn frame_of_a_disabled_unit(rt: HostRuntime) -> Result<(), Fail> {
-    let downs = [
-        (0, ENABLE),
-        (1, data(0x41)),
-        (2, data(0x42)),
-        (5, Down::Set { reg: 0, word: 8 }),
-        (100, Down::Set { reg: 0, word: 9 }),
-    ];
-    looks_for_events(&rt, rt.alloc(), 200, &downs, &[(20, 0x41), (139, 0x42)])
-}
-
-/// The frame of x began in cycle 0 and takes twenty cycles, also where the unit is disabled in cycle 5 with a control word of
-/// longer frames. That of y begins where the unit is enabled again, with frames of forty cycles.
-#[test]
-fn received_by_a_disabled_unit(rt: HostRuntime) -> Result<(), Fail> {
-    let alloc = rt.alloc();
-    let steps = vec![in alloc; sends(alloc, b"xy")?]?;
-    let downs = [
-        (0, ENABLE),
-        (5, Down::Set { reg: 0, word: 8 }),
-        (100, Down::Set { reg: 0, word: 9 }),
-    ];
-    receives(&rt, alloc, steps, &downs, &[(19, 0x78), (139, 0x79)])
-}
-
-/// Of seventeen bytes that a disabled unit is given, the last is lost: sixteen leave, one every twenty cycles, each with a
-/// credit, and nothing follows.
-#[test]
-fn seventeenth_byte(rt: HostRuntime) -> Result<(), Fail> {
-    let alloc = rt.alloc();
-    let mut downs = Vec::new(alloc);
-    let mut wanted = Vec::new(alloc);
-    for place in 0..17_u32 {
-        downs.push((Cycle::from(place), data(0x41 + place)))?;
-    }
-    downs.push((17, ENABLE))?;
-    for place in 0..16_u32 {
-        wanted.push((36 + 20 * Cycle::from(place), 0x41 + place))?;
-    }
-    looks_for_events(&rt, alloc, 400, downs.as_slice(), wanted.as_slice())
 }
