@@ -1,10 +1,7 @@
 use crate::{Gpio, Pwm};
 use chip_base::{Cycle, Down, Event, EventKind, PinStep, Pins, UnitOut, Up};
-
-const QUIET: UnitOut = UnitOut {
-    up: None,
-    event: None,
-};
+use std::alloc::Global;
+use std::process::Abort;
 
 const fn set(reg: u8, word: u32) -> Option<Down> {
     Some(Down::Set { reg, word })
@@ -33,10 +30,11 @@ const fn pin(cycle: Cycle, pin: u8, level: bool) -> PinStep {
     PinStep { cycle, pin, level }
 }
 
+const RESET: Option<Down> = Some(Down::Reset);
+
 /// Pin 3 rises in cycle 2, where pin 5 rises and falls; pin 31 rises in cycle 4, and pin 3 falls in cycle 6, that of a Reset.
-#[test]
-fn pins_and_outputs(rt: HostRuntime) {
-    let mut steps = Vec::new(rt.alloc());
+fn script(rt: &impl Abort, alloc: Global) -> Pins {
+    let mut steps = Vec::new(alloc);
     for step in [
         pin(2, 3, true),
         pin(2, 5, true),
@@ -44,94 +42,85 @@ fn pins_and_outputs(rt: HostRuntime) {
         pin(4, 31, true),
         pin(6, 3, false),
     ] {
-        steps.push(step).expect(&rt, "memory for the script");
+        steps.push(step).expect(rt, "memory for the script");
     }
-    let pins = Pins::from_vec(steps).expect(&rt, "a valid script");
-    let mut gpio = Gpio::new(pins);
-    let cycles = [
+    Pins::from_vec(steps).expect(rt, "a valid script")
+}
+
+#[test]
+fn pins_and_outputs(rt: HostRuntime) {
+    let mut gpio = Gpio::new(script(&rt, rt.alloc()));
+    for (now, down, up, event) in [
         (0, None, None, None),
         (1, set(4, 0xdead_beef), None, out(1, 4, 0xdead_beef)),
         (2, set(4, 0xdead_beef), inputs(false, 8), None),
         (3, set(8, 1), None, None),
         (4, None, inputs(false, 0x8000_0008), None),
         (5, None, None, None),
-        (
-            6,
-            Some(Down::Reset),
-            inputs(true, 0x8000_0000),
-            out(6, 4, 0),
-        ),
-        (7, Some(Down::Reset), inputs(true, 0x8000_0000), None),
-    ];
-    for (now, down, up, event) in cycles {
+        (6, RESET, inputs(true, 0x8000_0000), out(6, 4, 0)),
+        (7, RESET, inputs(true, 0x8000_0000), None),
+    ] {
         assert_eq!(rt; gpio.cycle(now, down), UnitOut { up, event }, "in {now}");
     }
+    // a unit whose first cycle is 3 passes over the pins of cycle 2, also later
+    let mut later = Gpio::new(script(&rt, rt.alloc()));
+    for (now, up) in [
+        (3, None),
+        (4, inputs(false, 0x8000_0000)),
+        (2, None),
+        (6, None),
+    ] {
+        let given = UnitOut { up, event: None };
+        assert_eq!(rt; later.cycle(now, None), given, "later in {now}");
+    }
 }
 
-/// By the prescaler 2, a unit that is enabled in cycle 3 has its step k in the cycles 3 + 2 * k and 4 + 2 * k. Channel 0 has the
-/// duty 0, channel 1 the duty 1 and channel 3 the duty 255.
+fn event_in(events: &[(Cycle, u32)], now: Cycle) -> Option<Event> {
+    for (cycle, mask) in events {
+        if *cycle == now {
+            return out(now, 5, *mask);
+        }
+    }
+    None
+}
+
+/// A unit is enabled in cycle 3, with the duty 0 of channel 0, 1 of channel 1 and 255 of channel 3. By the prescaler 2 its step k is
+/// in the cycles 3 + 2 * k and 4 + 2 * k, and by the prescaler 4 in the four cycles from 3 + 4 * k on.
 #[test]
 fn duties(rt: HostRuntime) {
-    let mut pwm = Pwm::new();
-    for now in 0..600 {
-        let down = match now {
-            0 => set(4, 0),
-            1 => set(8, 0x301),
-            2 => set(16, 255),
-            3 => set(0, 1),
-            _ => None,
+    let by_two: [(Cycle, u32); 8] = [
+        (3, 10),
+        (5, 8),
+        (513, 0),
+        (515, 10),
+        (517, 8),
+        (1_025, 0),
+        (1_027, 10),
+        (1_029, 8),
+    ];
+    let by_four: [(Cycle, u32); 5] = [(3, 10), (7, 8), (1_023, 0), (1_027, 10), (1_031, 8)];
+    for (control, events) in [(1, by_two.as_slice()), (9, by_four.as_slice())] {
+        let mut pwm = Pwm::new();
+        for now in 0..1_040 {
+            let down = match now {
+                0 => set(4, 0),
+                1 => set(8, 0x301),
+                2 => set(16, 255),
+                3 => set(0, control),
+                _ => None,
+            };
+            let given = UnitOut {
+                up: None,
+                event: event_in(events, now),
+            };
+            assert_eq!(rt; pwm.cycle(now, down), given, "in {now}");
+        }
+        let reset = UnitOut {
+            up: Some(Up::DONE),
+            event: out(1_040, 5, 0),
         };
-        let event = match now {
-            3 | 515 => out(now, 5, 10),
-            5 | 517 => out(now, 5, 8),
-            513 => out(now, 5, 0),
-            _ => None,
-        };
-        assert_eq!(rt;
-            pwm.cycle(now, down),
-            UnitOut { up: None, event },
-            "in {now}"
-        );
-    }
-    let done = Some(Up {
-        done: true,
-        has: false,
-        word: 0,
-        fire: false,
-        credit: false,
-    });
-    let reset = UnitOut {
-        up: done,
-        event: out(600, 5, 0),
-    };
-    assert_eq!(rt; pwm.cycle(600, Some(Down::Reset)), reset);
-    // the duties are gone
-    assert_eq!(rt; pwm.cycle(601, set(0, 1)), QUIET);
-}
-
-/// By the prescaler 4, a unit that is enabled in cycle 3 has its step k in the four cycles from 3 + 4 * k on. Channel 0 has the
-/// duty 0, channel 1 the duty 1 and channel 2 the duty 255.
-#[test]
-fn duties_by_another_prescaler(rt: HostRuntime) {
-    let mut pwm = Pwm::new();
-    for now in 0..2_100 {
-        let down = match now {
-            0 => set(4, 0),
-            1 => set(8, 1),
-            2 => set(12, 255),
-            3 => set(0, 9),
-            _ => None,
-        };
-        let event = match now {
-            3 | 1_027 | 2_051 => out(now, 5, 6),
-            7 | 1_031 | 2_055 => out(now, 5, 4),
-            1_023 | 2_047 => out(now, 5, 0),
-            _ => None,
-        };
-        assert_eq!(rt;
-            pwm.cycle(now, down),
-            UnitOut { up: None, event },
-            "in {now}"
-        );
+        assert_eq!(rt; pwm.cycle(1_040, RESET), reset);
+        // the duties are gone
+        assert_eq!(rt; pwm.cycle(1_041, set(0, 1)), UnitOut::QUIET);
     }
 }
