@@ -3,28 +3,28 @@ use Rattle.std.proofs.Common.{◌≡◌, ℕ, zero, suc, ◌+◌, ◌<◌, ◌�
 use Rattle.std.specs.Prelude.{Option}
 use Rattle.chip_base.specs.Given.{Given}
 use Rattle.chip_base.specs.RunLaws.{RunsByArrivals, RunsInParts, RunsQuietly}
-use Rattle.chip_base.specs.Runs.{Outcome, given_after, outcome_then, quiet_outcome, ran, unit_after}
+use Rattle.chip_base.specs.Runs.{Transcript, given_after, transcript_then, quiet_transcript, ran, unit_after}
 use Rattle.chip_base.specs.declared.message.Down.{Down}
 
-then_quiet : {S X Y : Type 0} (r : Outcome S X Y) → outcome_then r (quiet_outcome r.state) ≡ r
+then_quiet : {S X Y : Type 0} (r : Transcript S X Y) → transcript_then r (quiet_transcript r.state) ≡ r
 then_quiet r = ap₂ (λ xs ys. record { state = r.state; sent = xs; told = ys }) (append-nil r.sent) (append-nil r.told)
 
-then_assoc : {S X Y : Type 0} (a b c : Outcome S X Y) → outcome_then (outcome_then a b) c ≡ outcome_then a (outcome_then b c)
+then_assoc : {S X Y : Type 0} (a b c : Transcript S X Y) → transcript_then (transcript_then a b) c ≡ transcript_then a (transcript_then b c)
 then_assoc a b c = ap₂ (λ xs ys. record { state = c.state; sent = xs; told = ys }) (append_assoc a.sent b.sent c.sent) (append_assoc a.told b.told c.told)
 
-module _ {S A X Y : Type 0} (step : S → ℕ → A → Outcome S X Y) where
+module _ {S A X Y : Type 0} (step : S → ℕ → A → Transcript S X Y) where
   -- a run of cycles is that of the first ones and then that of the rest
   pub runs_in_parts : RunsInParts step
   unfolding ran
   runs_in_parts s start arrives a zero =
       ap (ran step s start arrives) (add-zero a) ∙ sym (then_quiet (ran step s start arrives a))
   runs_in_parts s start arrives a (suc b) =
-      let r : Outcome S X Y = ran step s start arrives a in
-      let q : Outcome S X Y = ran step r.state (start + a) arrives b in
+      let r : Transcript S X Y = ran step s start arrives a in
+      let q : Transcript S X Y = ran step r.state (start + a) arrives b in
       let e : start + (a + b) ≡ start + a + b = omega arith in
       ap (ran step s start arrives) (add-suc a b)
-      ∙ ap (λ x. outcome_then x (step x.state (start + (a + b)) (arrives (start + (a + b))))) (runs_in_parts s start arrives a b)
-      ∙ ap (λ t. outcome_then (outcome_then r q) (step q.state t (arrives t))) e
+      ∙ ap (λ x. transcript_then x (step x.state (start + (a + b)) (arrives (start + (a + b))))) (runs_in_parts s start arrives a b)
+      ∙ ap (λ t. transcript_then (transcript_then r q) (step q.state t (arrives t))) e
       ∙ then_assoc r q (step q.state (start + a + b) (arrives (start + a + b)))
 
   -- only what arrives in its cycles counts
@@ -32,7 +32,7 @@ module _ {S A X Y : Type 0} (step : S → ℕ → A → Outcome S X Y) where
   unfolding ran
   runs_by_arrivals s start f g zero h = refl
   runs_by_arrivals s start f g (suc n) h =
-      ap₂ (λ x a. outcome_then x (step x.state (start + n) a))
+      ap₂ (λ x a. transcript_then x (step x.state (start + n) a))
       (runs_by_arrivals s start f g n (λ t p q. h t p (omega (arith, q))))
       (h (start + n) (omega arith) (omega arith))
 
@@ -41,7 +41,7 @@ module _ {S A X Y : Type 0} (step : S → ℕ → A → Outcome S X Y) where
   unfolding ran
   runs_quietly f start arrives zero h = refl
   runs_quietly f start arrives (suc n) h =
-      ap (λ x. outcome_then x (step x.state (start + n) (arrives (start + n)))) (runs_quietly f start arrives n (λ k p. h k (omega (arith, p))))
+      ap (λ x. transcript_then x (step x.state (start + n) (arrives (start + n)))) (runs_quietly f start arrives n (λ k p. h k (omega (arith, p))))
       ∙ h n (omega arith)
 
 module _ {S : Type 0} (cycle : S → ℕ → Option Down → Given S) (s : S) (start : ℕ) (downs : ℕ → Option Down) where

@@ -3,9 +3,9 @@ use Rattle.std.specs.Prelude.{Option, None}
 use Rattle.chip_base.specs.declared.event.Event.{Event}
 use Rattle.chip_base.specs.declared.message.Up.{Up}
 
--- A unit's cycle is a function `unit → now → Option Down → Given unit`, and each unit keeps to these rules. It takes the message first, and
--- then works as without one; a Reset is all that it does. Each wait is a number of cycles in its state that loses one a cycle: it acts where
--- 1 becomes 0, and at 0 nothing is waited for. The cycle's number is handed in, and no state keeps it.
+-- A unit's cycle is a function `unit → now → Option Down → Given unit`. Each unit takes the message first and then works as without one;
+-- after a Reset it does nothing more than its definition says. Each wait is a countdown in the unit's state: at 0 nothing is waited for, else
+-- it loses one a cycle and acts where 1 becomes 0. The cycle `now` is handed in, and no state keeps it.
 
 -- the unit after the cycle, a message to its front, and an event
 pub record Given (S : Type 0) : Type 0 where
