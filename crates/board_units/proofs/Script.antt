@@ -8,8 +8,7 @@ use Rattle.std.specs.Int.{bit_at, bit_not, w32}
 use Rattle.chip_base.specs.declared.message.Down.{Down}
 use Rattle.chip_base.specs.declared.script.PinStep.{PinStep}
 use Rattle.chip_base.proofs.Runs.{after_more, after_none, given_from_zero}
-use Rattle.chip_base.specs.Given.{Given}
-use Rattle.chip_base.specs.Runs.{given_after, unit_after}
+use Rattle.chip_base.specs.Runs.{unit_after}
 use Rattle.chip_base.specs.Steps.{are_pins, are_pins_from, is_pin}
 use Rattle.board_units.specs.GpioCycle.{with_level, inputs_after, still_to_come, gpio_cycle}
 use Rattle.board_units.specs.GpioScript.{ChangesNow, FollowsScript, level_bit, level_by}

@@ -2,7 +2,7 @@
 use Rattle.std.proofs.Common.{◌≡◌, ◌≤◌, ◌<◌, ℕ, zero, suc, ◌+◌, ◌*◌, ◌%◌, ◌&&◌, ltb, leb, cond, Bool, true, false, List, [], ◌∷◌, get_or, None, refl, sym, ap, subst, ◌∙◌, arith}
 use Rattle.std.proofs.Math.Nat.{mod-eq_of_lt, mod_self, mul-le-mul_right, suc-mod, zero-mod}
 use Rattle.std.specs.Int.{bit_at}
-use Rattle.chip_base.specs.Runs.{given_after, never, unit_after}
+use Rattle.chip_base.specs.Runs.{never, unit_after}
 use Rattle.chip_base.proofs.Runs.{after_more, after_none}
 use Rattle.board_units.specs.PwmState.{PwmState}
 use Rattle.board_units.specs.PwmCycle.{is_high, mask_of, counted, pwm_cycle}

@@ -1,5 +1,5 @@
 -- Runs of cycles: their laws, and how a unit stands after some cycles.
-use Rattle.std.proofs.Common.{◌≡◌, ℕ, zero, suc, ◌+◌, ◌<◌, ◌≤◌, List, [], ◌++◌, refl, sym, ap, ap₂, ◌∙◌, arith, append_assoc, append-nil, add-suc, add-zero, zero-add}
+use Rattle.std.proofs.Common.{◌≡◌, ℕ, zero, suc, ◌+◌, refl, sym, ap, ap₂, ◌∙◌, arith, append_assoc, append-nil, add-suc, add-zero, zero-add}
 use Rattle.std.specs.Prelude.{Option}
 use Rattle.chip_base.specs.Given.{Given}
 use Rattle.chip_base.specs.RunLaws.{RunsByArrivals, RunsInParts, RunsQuietly}

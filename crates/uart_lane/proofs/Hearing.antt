@@ -16,7 +16,7 @@ use Rattle.chip_base.specs.declared.script.UartStep.{UartStep}
 use Rattle.chip_base.specs.declared.script.UartStep.TheVariants.{Expect}
 use Rattle.uart_lane.specs.Counts.{bytes_out}
 use Rattle.uart_lane.specs.Cycle.{unit_cycle}
-use Rattle.uart_lane.specs.Hearing.{sent_in, steps_before, sent_since, HearsAll, HearsItself}
+use Rattle.uart_lane.specs.Hearing.{sent_in, sent_since, HearsAll, HearsItself}
 use Rattle.uart_lane.specs.Receiver.{Receiver}
 use Rattle.uart_lane.specs.Receiving.{bytes_of, current, framed, heard_with, is_sent, last_64, looked, passed, passes, ready, receive, run}
 use Rattle.uart_lane.specs.State.{UartState, power_on}
