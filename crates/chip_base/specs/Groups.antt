@@ -2,14 +2,11 @@
 use Rattle.std.specs.Prelude.{ℕ, ◌≡◌, ◌<◌, ◌+◌, ◌==◌, Bool, List, [], ◌∷◌, ◌++◌, All, Contains, map, filter, flat_map, length, slice_index, slice_index_or, IsPermutation, Option, Some, None, codes, if◌then◌else◌, option_map}
 use Rattle.std.specs.List.{slice_split, list_any, list_all, join_with_byte}
 use Rattle.std.specs.Str.{bytes_eq}
+use Rattle.chip_base.specs.UnitTable.{lane_names}
 
 -- a text as its bytes
 abbrev pub Text : Type 0
 Text = List ℕ
-
--- the names of the lanes, from lane 0 on
-abbrev pub lane_names : List Text
-lane_names = codes "hub" ∷ codes "uart0" ∷ codes "uart1" ∷ codes "spi" ∷ codes "gpio" ∷ codes "pwm" ∷ codes "slink" ∷ codes "wdt" ∷ []
 
 -- whether a name is a lane's
 abbrev pub is_lane : Text → Bool

@@ -10,3 +10,4 @@ pub mod RunLaws
 pub mod Runs
 pub mod Settings
 pub mod Steps
+pub mod UnitTable

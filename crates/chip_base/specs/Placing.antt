@@ -1,8 +1,7 @@
 -- Names put lanes into groups, one after another: what the private functions of groups.rt say. No public contract cites this file.
 use Rattle.std.specs.Prelude.{ℕ, ◌+◌, List, [], ◌∷◌, Option, Some, None, option_and_then, slice_get, slice_set}
-use Rattle.std.specs.List.{position_from}
-use Rattle.std.specs.Str.{bytes_eq}
-use Rattle.chip_base.specs.Groups.{Text, lane_names}
+use Rattle.chip_base.specs.UnitTable.{lane_named}
+use Rattle.chip_base.specs.Groups.{Text}
 
 -- for each lane the number of the group that it was put into, where it was
 abbrev pub Places : Type 0
@@ -11,10 +10,6 @@ Places = List (Option ℕ)
 -- no lane stands in a group
 abbrev pub none_yet : Places
 none_yet = None ∷ None ∷ None ∷ None ∷ None ∷ None ∷ None ∷ None ∷ []
-
--- a lane's number
-abbrev pub lane_of : Text → Option ℕ
-lane_of name = position_from (bytes_eq name) 0 lane_names
 
 -- the lane put into the group, unless it stands in one
 abbrev pub put_free : ℕ → ℕ → Places → Option (Option ℕ) → Option Places
@@ -29,7 +24,7 @@ put group (Some lane) places = put_free lane group places (slice_get places lane
 -- the lanes of these names put into their groups, in order
 unfoldable pub put_all : List (Text × ℕ) → Places → Option Places
 put_all [] places = Some places
-put_all (p ∷ rest) places = option_and_then (put_all rest) (put p.1 (lane_of p.0) places)
+put_all (p ∷ rest) places = option_and_then (put_all rest) (put p.1 (lane_named p.0) places)
 
 -- how many lanes stand in a group
 abbrev pub taken : Places → ℕ

@@ -1,7 +1,10 @@
 //! Which lanes run together.
 ghost use Rattle.std.specs.Prelude.{◌≡◌, ◌≤◌, ◌<◌, ◌+◌, List, IfSome, IsSomeAnd, Some, None, is_some, option_map, true, false, map, length, []};
 ghost use Rattle.chip_base.specs.Groups.{AreNumbersOf, IsGrouping, Text, all_some, each_once, groups_of, named_groups, numbered, pieces, text_of};
-ghost use Rattle.chip_base.specs.Placing.{lane_of, none_yet, put, put_all, taken};
+ghost use Rattle.chip_base.specs.UnitTable.{lane_named};
+ghost use Rattle.chip_base.specs.Placing.{none_yet, put, put_all, taken};
+
+use crate::chip_unit::lane_named;
 
 /// For each of the eight lanes (hub, uart0, uart1, spi, gpio, pwm, slink, wdt) the number of its group.
 #[derive(Clone, Copy, Debug, PartialEq, Eq)]
@@ -9,31 +12,13 @@ pub struct Groups {
     pub of: [u8; 8],
 }
 
-/// The place of the lane with this name.
-fn lane_at(name: &str) -> Option<usize>
-    ensures value { result ≡ lane_of name.now }
-    ensures bound { IfSome result (λ lane. lane < 8) }
-{
-    match name {
-        "hub" => Some(0),
-        "uart0" => Some(1),
-        "uart1" => Some(2),
-        "spi" => Some(3),
-        "gpio" => Some(4),
-        "pwm" => Some(5),
-        "slink" => Some(6),
-        "wdt" => Some(7),
-        _ => None,
-    }
-}
-
 /// Puts a lane into a group. None where there is no such lane, or where it stands in a group.
 #[tactic(auto, using(crate::proofs::Places::taken_set))]
 fn put_lane(group: u8, name: &str, mut places: [Option<u8>; 8]) -> Option<[Option<u8>; 8]>
-    ensures value { result ≡ put group (lane_of name.now) places }
+    ensures value { result ≡ put group (lane_named name.now) places }
     ensures counts { IfSome result (λ p. taken p ≡ taken places + 1) }
 {
-    let lane = lane_at(name)?;
+    let lane = lane_named(name)?;
     match places[lane] {
         Some(_) => None,
         None => {

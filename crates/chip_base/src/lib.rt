@@ -3,6 +3,7 @@
 
 pub mod bits;
 pub mod boot;
+pub mod chip_unit;
 pub mod counter;
 pub mod cycle;
 pub mod event;
@@ -17,6 +18,7 @@ pub mod setup;
 mod valid;
 
 pub use boot::{Boot, BootView};
+pub use chip_unit::{ChipUnit, HubPart};
 pub use counter::Steps;
 pub use cycle::{Cycle, NoMemory};
 pub use event::{Event, EventKind, UnitOut};

@@ -3,6 +3,8 @@ ghost use Rattle.std.specs.Prelude.{◌≡◌, ◌≤◌, ◌%◌, length, true}
 ghost use Rattle.std.specs.List.{list_all};
 ghost use Rattle.chip_base.specs.Ranges.{is_delay};
 
+use crate::chip_unit::standard_delays;
+
 /// The settings of a chip: the clock in hertz (1 to 4,294,967,295), the sizes of IMEM and DMEM in bytes (multiples of 4,096 from 4,096
 /// to 1,048,576), the prescaler's number (0 to 7) and the baud divisor (0 to 1,023) that the boot monitor gives UART0, whether a flash is
 /// fitted, and the delay of each unit's links in cycles (1 to 4,096; uart0, uart1, spi, gpio, pwm, slink, wdt).
@@ -43,7 +45,7 @@ impl Setup {
             prescaler: 0,
             baud: 277,
             flash: true,
-            delay: [32, 32, 8, 8, 32, 8, 64],
+            delay: standard_delays(),
         }
     }
 }

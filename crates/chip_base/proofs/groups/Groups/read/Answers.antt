@@ -11,7 +11,8 @@ use Rattle.std.proofs.lemmas.List.Folds.{list_all-append, list_all-map}
 use Rattle.std.proofs.lemmas.List.Sums.{AllPass-from_list_all, list_all-from_AllPass, length-filter}
 use Rattle.std.proofs.lemmas.List.Sorted.{All-permutation, IsPermutation-sym, sum_by-IsPermutation, length_permutation}
 use Rattle.std.proofs.lemmas.List.Splits.{slice_split_none, slice_split_at}
-use Rattle.chip_base.specs.Groups.{Text, lane_names, is_lane, pieces, named_groups, numbered, groups_with, only, all_some, each_once, groups_of, text_of, IsGrouping, AreNumbersOf}
+use Rattle.chip_base.specs.UnitTable.{lane_names}
+use Rattle.chip_base.specs.Groups.{Text, is_lane, pieces, named_groups, numbered, groups_with, only, all_some, each_once, groups_of, text_of, IsGrouping, AreNumbersOf}
 use Rattle.chip_base.specs.declared.groups.Groups.{Groups}
 use Rattle.chip_base.proofs.groups.Groups.read.Goals as goal
 
