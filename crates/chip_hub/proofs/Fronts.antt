@@ -4,6 +4,8 @@ use Rattle.std.specs.Prelude.{◌==◌, get_or, ◌&&◌, not, if◌then◌else�
 use Rattle.std.proofs.lemmas.Bool.Decides.{nat_tests}
 use Rattle.chip_base.specs.declared.message.Down.{Down}
 use Rattle.chip_base.specs.declared.message.Up.{Up}
+use Rattle.chip_base.specs.declared.chip_unit.ChipUnit.{ChipUnit}
+use Rattle.chip_base.specs.declared.chip_unit.ChipUnit.TheVariants.{Uart0, Uart1, Spi, Gpio, Pwm, Slink, Wdt}
 use Rattle.chip_base.specs.Messages.{at_data, done_in, entry_in, reset_in}
 use Rattle.soc_bus.specs.Map.{admitted}
 use Rattle.soc_bus.specs.Memory.{Memories, store_of}
@@ -22,17 +24,17 @@ use Rattle.unit_fronts.specs.GpioFront.{PinRegisters, answered as pins_answered,
 use Rattle.unit_fronts.specs.PwmFront.{DutyRegisters, arrived as duty_arrived, store_sent as duty_sent, stored as duty_stored}
 use Rattle.unit_fronts.specs.UartFront.{loaded, stored, store_sent}
 use Rattle.unit_fronts.proofs.Counts.{loads, spends}
-use Rattle.chip_hub.specs.Access.{accessed, accessed_by, in_clint, in_device, in_dma, in_mailbox, in_memory, in_region, in_sysinfo, memory_stored, silent}
+use Rattle.chip_hub.specs.Access.{accessed, accessed_by, in_clint, in_device, in_dma, in_mailbox, in_memory, in_region, in_sysinfo, memory_stored}
 use Rattle.chip_hub.specs.Cycle.{heard, heard_by_gpio, heard_by_pwm, hub_cycle, served, served0, served1, served2, served_to, timed, turn0, turn1, wants_of}
 use Rattle.chip_hub.specs.State.{Fronts, State}
-use Rattle.chip_hub.specs.Units.{AtFront, at_gpio, at_pwm, at_uart}
+use Rattle.chip_hub.specs.Units.{at_gpio, at_pwm, at_uart, fronts_after, messages_in, only_to, silent, unit_down}
 
 -- a relation between the fronts before an access, the fronts after it and the messages that go down holds of every access
 pub record HoldsOfAccesses (Q : Fronts → Fronts → List (Option Down) → Type 0) : Type 0 where
   -- where no front is reached
   pub quiet : (f : Fronts) → Q f f silent
   -- at the registers of a unit
-  pub device : (s : State) (r : Request) (unit reg : ℕ) → Q s.fronts (in_device s r unit reg).hub.fronts (in_device s r unit reg).downs
+  pub device : (s : State) (r : Request) (unit : ChipUnit) (reg : ℕ) → Q s.fronts (in_device s r unit reg).hub.fronts (in_device s r unit reg).downs
 
 memory_store : (Q : Fronts → Fronts → List (Option Down) → Type 0) → HoldsOfAccesses Q → (s : State) (m : Result Memories BusFault)
     → Q s.fronts (memory_stored s m).hub.fronts (memory_stored s m).downs
@@ -106,15 +108,39 @@ grant Q h s (Some Core0) = core0_access Q h s (wanted_in s.core0.phase)
 grant Q h s (Some Core1) = core1_access Q h s (wanted_in s.core1.phase)
 grant Q h s (Some Copier) = dma_served Q h s (dma_wanted s.dma)
 
-served_fronts : (Q : Fronts → Fronts → List (Option Down) → Type 0) → HoldsOfAccesses Q → (s : State)
-    → Q s.fronts (served s).hub.fronts (served s).downs
-served_fronts Q h s = grant Q h _ (granted s.arbiter (wants_of s))
+served_fronts : (Q : Fronts → Fronts → List (Option Down) → Type 0) → HoldsOfAccesses Q → (s : State) (wants : ℕ)
+    → Q s.fronts (served s wants).hub.fronts (served s wants).downs
+served_fronts Q h s wants = grant Q h _ (granted s.arbiter wants)
 
 -- after the arrivals, a cycle makes one access at most
 pub cycle_fronts : (Q : Fronts → Fronts → List (Option Down) → Type 0) → HoldsOfAccesses Q → (s : State) (now : ℕ) (ups : List (Option Up))
     → Q (heard s ups).fronts (hub_cycle s now ups).hub.fronts (hub_cycle s now ups).downs
 unfolding hub_cycle
-cycle_fronts Q h s now ups = served_fronts Q h (turn1 (turn0 (timed (heard s ups)) now) now)
+cycle_fronts Q h s now ups = served_fronts Q h (turn1 (turn0 (timed (heard s ups)) now) now) (wants_of (turn1 (turn0 (timed (heard s ups)) now) now))
+
+-- one message to a unit is the only one
+one_to : (unit : ChipUnit) (down : Option Down) → messages_in (only_to unit down) ≤ 1
+one_to Uart0 None = omega arith
+one_to Uart0 (Some m) = omega arith
+one_to Uart1 None = omega arith
+one_to Uart1 (Some m) = omega arith
+one_to Spi None = omega arith
+one_to Spi (Some m) = omega arith
+one_to Gpio None = omega arith
+one_to Gpio (Some m) = omega arith
+one_to Pwm None = omega arith
+one_to Pwm (Some m) = omega arith
+one_to Slink None = omega arith
+one_to Slink (Some m) = omega arith
+one_to Wdt None = omega arith
+one_to Wdt (Some m) = omega arith
+
+-- a grant sends at most one message down
+pub one_message : (s : State) (wants : ℕ) → messages_in (served s wants).downs ≤ 1
+one_message = served_fronts (λ old new downs. messages_in downs ≤ 1) (record {
+  quiet = λ f. omega arith;
+  device = λ s r unit reg. one_to unit (unit_down s.fronts r unit reg);
+})
 
 -- what an access does to a front, and the message that it sends down
 pub record ServesPort (takes : ℕ → Bool) (old : Port) (down : Option Down) (new : Port) : Type 0 where
@@ -148,28 +174,40 @@ uart_access : (p : Port) (r : Request) (reg : ℕ) (store : Option ℕ) → Serv
 uart_access p r reg None = uart_load p reg
 uart_access p r reg (Some value) = uart_store p reg value
 
--- what holds of a front at an access to its own registers, and of one that nothing reaches, holds of it at an access to any unit's
-by_unit : {F : Type 0} (Serves : F → Option Down → F → Type 0) (old : F) (at : AtFront F) → Serves old None old → Serves old at.down at.front
-    → (reached : Bool) → Serves old (if reached then at.down else None) (if reached then at.front else old)
-by_unit Serves old at nothing served true = served
-by_unit Serves old at nothing served false = nothing
+-- what an access to a unit's registers does to the front of uart0
+uart0_reached : (f : Fronts) (r : Request) (unit : ChipUnit) (reg : ℕ) → ServesPort at_data f.uart0 (get_or (only_to unit (unit_down f r unit reg)) 0 None) (fronts_after f r unit reg).uart0
+uart0_reached f r Uart0 reg = uart_access f.uart0 r reg r.store
+uart0_reached f r Uart1 reg = serves_nothing at_data f.uart0
+uart0_reached f r Spi reg = serves_nothing at_data f.uart0
+uart0_reached f r Gpio reg = serves_nothing at_data f.uart0
+uart0_reached f r Pwm reg = serves_nothing at_data f.uart0
+uart0_reached f r Slink reg = serves_nothing at_data f.uart0
+uart0_reached f r Wdt reg = serves_nothing at_data f.uart0
 
 -- what a cycle does to the front of uart0, after the arrivals
 pub serves_uart0 : (s : State) (now : ℕ) (ups : List (Option Up))
     → ServesPort at_data (heard s ups).fronts.uart0 (get_or (hub_cycle s now ups).downs 0 None) (hub_cycle s now ups).hub.fronts.uart0
 serves_uart0 = cycle_fronts (λ old new downs. ServesPort at_data old.uart0 (get_or downs 0 None) new.uart0) (record {
   quiet = λ f. serves_nothing at_data f.uart0;
-  device = λ s r unit reg.
-      by_unit (ServesPort at_data) s.fronts.uart0 (at_uart s.fronts.uart0 r reg r.store) (serves_nothing at_data _) (uart_access _ r reg r.store) (unit == 1);
+  device = λ s r unit reg. uart0_reached s.fronts r unit reg;
 })
+
+-- what an access to a unit's registers does to the front of uart1
+uart1_reached : (f : Fronts) (r : Request) (unit : ChipUnit) (reg : ℕ) → ServesPort at_data f.uart1 (get_or (only_to unit (unit_down f r unit reg)) 1 None) (fronts_after f r unit reg).uart1
+uart1_reached f r Uart0 reg = serves_nothing at_data f.uart1
+uart1_reached f r Uart1 reg = uart_access f.uart1 r reg r.store
+uart1_reached f r Spi reg = serves_nothing at_data f.uart1
+uart1_reached f r Gpio reg = serves_nothing at_data f.uart1
+uart1_reached f r Pwm reg = serves_nothing at_data f.uart1
+uart1_reached f r Slink reg = serves_nothing at_data f.uart1
+uart1_reached f r Wdt reg = serves_nothing at_data f.uart1
 
 -- what a cycle does to the front of uart1, after the arrivals
 pub serves_uart1 : (s : State) (now : ℕ) (ups : List (Option Up))
     → ServesPort at_data (heard s ups).fronts.uart1 (get_or (hub_cycle s now ups).downs 1 None) (hub_cycle s now ups).hub.fronts.uart1
 serves_uart1 = cycle_fronts (λ old new downs. ServesPort at_data old.uart1 (get_or downs 1 None) new.uart1) (record {
   quiet = λ f. serves_nothing at_data f.uart1;
-  device = λ s r unit reg.
-      by_unit (ServesPort at_data) s.fronts.uart1 (at_uart s.fronts.uart1 r reg r.store) (serves_nothing at_data _) (uart_access _ r reg r.store) (unit == 2);
+  device = λ s r unit reg. uart1_reached s.fronts r unit reg;
 })
 
 -- what an access does to the answers that a front without entries waits for: nothing, and it sends no Reset
@@ -208,23 +246,39 @@ pwm_access : (p : DutyRegisters) (r : Request) (reg : ℕ) (store : Option ℕ)
 pwm_access p r reg None = no_answers p.owed
 pwm_access p r reg (Some value) = pwm_store p reg value _ _ refl refl
 
+-- what an access to a unit's registers does to the answers that the front of gpio waits for
+gpio_reached : (f : Fronts) (r : Request) (unit : ChipUnit) (reg : ℕ) → ServesAnswers f.gpio.owed (get_or (only_to unit (unit_down f r unit reg)) 3 None) (fronts_after f r unit reg).gpio.owed
+gpio_reached f r Uart0 reg = no_answers f.gpio.owed
+gpio_reached f r Uart1 reg = no_answers f.gpio.owed
+gpio_reached f r Spi reg = no_answers f.gpio.owed
+gpio_reached f r Gpio reg = gpio_access f.gpio r reg r.store
+gpio_reached f r Pwm reg = no_answers f.gpio.owed
+gpio_reached f r Slink reg = no_answers f.gpio.owed
+gpio_reached f r Wdt reg = no_answers f.gpio.owed
+
 -- what a cycle does to the fronts of gpio and pwm, after the arrivals
 pub serves_gpio : (s : State) (now : ℕ) (ups : List (Option Up))
     → ServesAnswers (heard s ups).fronts.gpio.owed (get_or (hub_cycle s now ups).downs 3 None) (hub_cycle s now ups).hub.fronts.gpio.owed
 serves_gpio = cycle_fronts (λ old new downs. ServesAnswers old.gpio.owed (get_or downs 3 None) new.gpio.owed) (record {
   quiet = λ f. no_answers f.gpio.owed;
-  device = λ s r unit reg.
-      by_unit (λ old down new. ServesAnswers old.owed down new.owed) s.fronts.gpio (at_gpio s.fronts.gpio r reg r.store) (no_answers _)
-      (gpio_access _ r reg r.store) (unit == 4);
+  device = λ s r unit reg. gpio_reached s.fronts r unit reg;
 })
+
+-- what an access to a unit's registers does to the answers that the front of pwm waits for
+pwm_reached : (f : Fronts) (r : Request) (unit : ChipUnit) (reg : ℕ) → ServesAnswers f.pwm.owed (get_or (only_to unit (unit_down f r unit reg)) 4 None) (fronts_after f r unit reg).pwm.owed
+pwm_reached f r Uart0 reg = no_answers f.pwm.owed
+pwm_reached f r Uart1 reg = no_answers f.pwm.owed
+pwm_reached f r Spi reg = no_answers f.pwm.owed
+pwm_reached f r Gpio reg = no_answers f.pwm.owed
+pwm_reached f r Pwm reg = pwm_access f.pwm r reg r.store
+pwm_reached f r Slink reg = no_answers f.pwm.owed
+pwm_reached f r Wdt reg = no_answers f.pwm.owed
 
 pub serves_pwm : (s : State) (now : ℕ) (ups : List (Option Up))
     → ServesAnswers (heard s ups).fronts.pwm.owed (get_or (hub_cycle s now ups).downs 4 None) (hub_cycle s now ups).hub.fronts.pwm.owed
 serves_pwm = cycle_fronts (λ old new downs. ServesAnswers old.pwm.owed (get_or downs 4 None) new.pwm.owed) (record {
   quiet = λ f. no_answers f.pwm.owed;
-  device = λ s r unit reg.
-      by_unit (λ old down new. ServesAnswers old.owed down new.owed) s.fronts.pwm (at_pwm s.fronts.pwm r reg r.store) (no_answers _)
-      (pwm_access _ r reg r.store) (unit == 5);
+  device = λ s r unit reg. pwm_reached s.fronts r unit reg;
 })
 
 -- what an arrival does to the answers that a front waits for

@@ -1,6 +1,9 @@
 -- An access that was granted.
-use Rattle.std.specs.Prelude.{◌==◌, ℕ, ◌+◌, List, [], ◌∷◌, length, Option, Some, None, Result, Ok, Err, if◌then◌else◌}
+use Rattle.std.specs.Prelude.{◌==◌, ℕ, ◌+◌, Bool, true, List, length, Option, Some, None, Result, Ok, Err, if◌then◌else◌}
 use Rattle.chip_base.specs.Bits.{bit_if}
+use Rattle.chip_base.specs.UnitTable.{unit_row}
+use Rattle.chip_base.specs.declared.chip_unit.ChipUnit.{ChipUnit}
+use Rattle.chip_base.specs.declared.chip_unit.ChipUnit.TheVariants.{Uart0, Uart1, Spi, Gpio, Pwm, Slink, Wdt}
 use Rattle.chip_base.specs.declared.message.Down.{Down}
 use Rattle.core_pair.specs.Clint.{clint_word, clint_stored}
 use Rattle.core_pair.specs.Mailbox.{mailbox_word, mailbox_stored}
@@ -14,17 +17,13 @@ use Rattle.dma_unit.specs.Copier.{loaded_word as dma_word, stored as dma_stored}
 use Rattle.unit_fronts.specs.Owed.{is_open_at}
 use Rattle.chip_hub.specs.Parts.{offset_in, part_of_word}
 use Rattle.chip_hub.specs.State.{State, Fronts}
-use Rattle.chip_hub.specs.Units.{fronts_after, unit_answer, unit_downs}
+use Rattle.chip_hub.specs.Units.{fronts_after, only_to, silent, unit_answer, unit_down}
 
 -- what an access gives: the hub after it, the answer to its master, and the messages that go down
 pub record Accessed : Type 0 where
   pub hub : State
   pub answer : Result ℕ BusFault
   pub downs : List (Option Down)
-
--- no message for any of the seven units
-abbrev pub silent : List (Option Down)
-silent = None ∷ None ∷ None ∷ None ∷ None ∷ None ∷ None ∷ []
 
 -- an access that changes nothing but its master
 abbrev pub unchanged : State → Result ℕ BusFault → Accessed
@@ -54,9 +53,15 @@ abbrev pub in_mailbox : State → Request → Option ℕ → Accessed
 in_mailbox s r None = unchanged s (Ok (part_of_word r (mailbox_word s.mailbox (offset_in 0x100 r))))
 in_mailbox s r (Some value) = done (record s { mailbox = mailbox_stored s.mailbox (offset_in 0x100 r) value })
 
--- OPEN: the units' numbers are 1 to 7, and a unit that isn't built counts as open
+-- a unit's bit in OPEN, where its front is open
+abbrev pub open_bit : ChipUnit → Bool → ℕ
+open_bit unit is_open = bit_if (unit_row unit).number is_open
+
+-- OPEN; a unit that isn't built counts as open
 abbrev pub open_word : Fronts → ℕ
-open_word f = bit_if 1 (is_open_at f.uart0.owed) + bit_if 2 (is_open_at f.uart1.owed) + bit_if 4 (is_open_at f.gpio.owed) + bit_if 5 (is_open_at f.pwm.owed) + 0xc8
+open_word f =
+    open_bit Uart0 (is_open_at f.uart0.owed) + open_bit Uart1 (is_open_at f.uart1.owed) + open_bit Spi true + open_bit Gpio (is_open_at f.gpio.owed)
+    + open_bit Pwm (is_open_at f.pwm.owed) + open_bit Slink true + open_bit Wdt true
 
 -- the registers that tell the settings: CLK, IMEM, DMEM and OPEN
 abbrev pub sysinfo_word : State → ℕ → ℕ
@@ -72,11 +77,11 @@ in_sysinfo s r None = unchanged s (Ok (part_of_word r (sysinfo_word s (offset_in
 in_sysinfo s r (Some value) = done s
 
 -- the registers of a unit
-abbrev pub in_device : State → Request → ℕ → ℕ → Accessed
+abbrev pub in_device : State → Request → ChipUnit → ℕ → Accessed
 in_device s r unit reg = record {
   hub = record s { fronts = fronts_after s.fronts r unit reg };
   answer = unit_answer s.fronts r unit reg;
-  downs = unit_downs s.fronts r unit reg;
+  downs = only_to unit (unit_down s.fronts r unit reg);
 }
 
 abbrev pub in_region : State → Request → Region → Accessed

@@ -1,33 +1,29 @@
--- One cycle of the hub.
-use Rattle.std.specs.Prelude.{◌==◌, ℕ, ◌+◌, Bool, List, ◌++◌, drop, length, Option, Some, None, Result, Ok, Err, if◌then◌else◌, is_some, get_or}
+-- One cycle of the hub: a definition.
+use Rattle.std.specs.Prelude.{◌==◌, ℕ, ◌+◌, Bool, List, ◌++◌, Option, Some, None, if◌then◌else◌, is_some, get_or}
 use Rattle.chip_base.specs.Bits.{bit_if}
-use Rattle.chip_base.specs.declared.boot.BootView.{BootView}
-use Rattle.chip_base.specs.declared.boot.BootView.TheVariants.{Raw}
-use Rattle.chip_base.specs.declared.hart.HartView.{HartView}
 use Rattle.chip_base.specs.declared.message.Up.{Up}
-use Rattle.chip_base.specs.Settings.{Values}
+use Rattle.chip_base.specs.UnitTable.{link_place}
+use Rattle.chip_base.specs.declared.chip_unit.ChipUnit.{ChipUnit}
+use Rattle.chip_base.specs.declared.chip_unit.ChipUnit.TheVariants.{Uart0, Uart1, Gpio, Pwm}
 use Rattle.core_pair.specs.Access.{granted_with}
-use Rattle.core_pair.specs.Clint.{reset_clint, clint_ticked}
-use Rattle.core_pair.specs.Core.{CoreState, reset_core, started, wanted_in, view_of}
-use Rattle.core_pair.specs.Mailbox.{reset_mailbox, mailbox_word}
+use Rattle.core_pair.specs.Clint.{clint_ticked}
+use Rattle.core_pair.specs.Core.{CoreState, started, wanted_in}
+use Rattle.core_pair.specs.Mailbox.{mailbox_word}
 use Rattle.core_pair.specs.Turn.{turned}
 use Rattle.core_pair.specs.declared.phase.Phase.{Phase}
 use Rattle.core_pair.specs.declared.phase.Phase.TheVariants.{Parked}
 use Rattle.soc_bus.specs.Rotation.{granted, after_grant}
-use Rattle.csr_file.specs.Table.{read_at}
-use Rattle.soc_bus.specs.Memory.{load_of, zeros}
-use Rattle.soc_bus.specs.declared.access.BusFault.{BusFault}
-use Rattle.soc_bus.specs.declared.access.Width.TheVariants.{Word}
 use Rattle.soc_bus.specs.declared.access.Request.{Request}
 use Rattle.soc_bus.specs.declared.arbiter.Master.{Master}
 use Rattle.soc_bus.specs.declared.arbiter.Master.TheVariants.{Core0, Core1, Dma}
-use Rattle.dma_unit.specs.Copier.{reset_copier, wanted as dma_wanted, granted_with as dma_granted}
-use Rattle.unit_fronts.specs.GpioFront.{PinRegisters, arrived as pins_arrived, reset_owing as pins_reset}
-use Rattle.unit_fronts.specs.Port.{Port, arrived, reset_owing}
-use Rattle.unit_fronts.specs.PwmFront.{DutyRegisters, arrived as duty_arrived, reset_owing as duty_reset}
-use Rattle.chip_hub.specs.Access.{Accessed, accessed, silent}
+use Rattle.dma_unit.specs.Copier.{wanted as dma_wanted, granted_with as dma_granted}
+use Rattle.unit_fronts.specs.GpioFront.{PinRegisters, arrived as pins_arrived}
+use Rattle.unit_fronts.specs.Port.{Port, arrived}
+use Rattle.unit_fronts.specs.PwmFront.{DutyRegisters, arrived as duty_arrived}
+use Rattle.chip_hub.specs.Access.{Accessed, accessed}
 use Rattle.chip_hub.specs.Lines.{mip_of}
 use Rattle.chip_hub.specs.State.{State, Step}
+use Rattle.chip_hub.specs.Units.{silent}
 
 -- 1. what arrives from the units reaches their fronts
 
@@ -43,13 +39,17 @@ abbrev pub heard_by_pwm : DutyRegisters → Option Up → DutyRegisters
 heard_by_pwm front None = front
 heard_by_pwm front (Some up) = duty_arrived front up
 
+-- the message of a unit among those that arrive
+abbrev pub arrival_of : ChipUnit → List (Option Up) → Option Up
+arrival_of unit ups = get_or ups (link_place unit) None
+
 abbrev pub heard : State → List (Option Up) → State
 heard s ups = record s {
   fronts = record {
-    uart0 = heard_by s.fronts.uart0 (get_or ups 0 None);
-    uart1 = heard_by s.fronts.uart1 (get_or ups 1 None);
-    gpio = heard_by_gpio s.fronts.gpio (get_or ups 3 None);
-    pwm = heard_by_pwm s.fronts.pwm (get_or ups 4 None);
+    uart0 = heard_by s.fronts.uart0 (arrival_of Uart0 ups);
+    uart1 = heard_by s.fronts.uart1 (arrival_of Uart1 ups);
+    gpio = heard_by_gpio s.fronts.gpio (arrival_of Gpio ups);
+    pwm = heard_by_pwm s.fronts.pwm (arrival_of Pwm ups);
   };
 }
 
@@ -112,43 +112,15 @@ served_to s (Some Core0) = served0 s (wanted_in s.core0.phase)
 served_to s (Some Core1) = served1 s (wanted_in s.core1.phase)
 served_to s (Some Dma) = served2 s (dma_wanted s.dma)
 
-abbrev pub served : State → Step
-served s = served_to (record s { arbiter = after_grant s.arbiter (wants_of s) }) (granted s.arbiter (wants_of s))
+abbrev pub served : State → ℕ → Step
+served s wants = served_to (record s { arbiter = after_grant s.arbiter wants }) (granted s.arbiter wants)
 
 -- one cycle, in these six steps
 unfoldable pub hub_cycle : State → ℕ → List (Option Up) → Step
-hub_cycle s now ups = served (turn1 (turn0 (timed (heard s ups)) now) now)
-
--- the hub at power-on, with these bytes from address 0 of IMEM
-unfoldable pub start : Values → List ℕ → State
-start v image = record {
-  clock = v.clock;
-  core0 = reset_core 0;
-  core1 = reset_core 1;
-  memory = record { imem = image ++ drop (length image) (zeros v.imem); dmem = zeros v.dmem };
-  arbiter = record { last = Dma };
-  dma = reset_copier;
-  clint = reset_clint;
-  mailbox = reset_mailbox;
-  fronts = record { uart0 = reset_owing 0; uart1 = reset_owing 0; gpio = pins_reset 0; pwm = duty_reset 0 };
-}
-
-abbrev pub loaded_word : Result ℕ BusFault → Option ℕ
-loaded_word (Ok word) = Some word
-loaded_word (Err fault) = None
-
--- the word at an address, if it is that of a word of the memories
-abbrev pub word_at : State → ℕ → Option ℕ
-word_at s address = loaded_word (load_of s.memory address Word)
-
--- a hart as a report shows it
-abbrev pub hart_view : State → ℕ → HartView
-hart_view s hart = if hart == 0 then view_of s.core0 else view_of s.core1
-
--- a CSR of a hart, mip as the lines stand
-abbrev pub csr_at : State → ℕ → ℕ → Option ℕ
-csr_at s hart number = if hart == 0 then read_at s.core0.csrs number (mip_of s 0) else read_at s.core1.csrs number (mip_of s 1)
-
--- core 0 began with the raw bytes of the file
-abbrev pub boot_view : BootView
-boot_view = Raw
+hub_cycle s now ups =
+    let with_arrivals = heard s ups in
+    let at_time = timed with_arrivals in
+    let after_core0 = turn0 at_time now in
+    let after_core1 = turn1 after_core0 now in
+    let wants = wants_of after_core1 in
+    served after_core1 wants

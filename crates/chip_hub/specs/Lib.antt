@@ -3,5 +3,7 @@ pub mod Cycle
 pub mod Lines
 pub mod Offsets
 pub mod Parts
+pub mod Start
 pub mod State
 pub mod Units
+pub mod Views

@@ -1,5 +1,8 @@
 -- An access to the registers of a unit: it reaches the unit's own front alone, and sends a message to that unit alone.
-use Rattle.std.specs.Prelude.{◌==◌, ℕ, List, [], ◌∷◌, Option, Some, None, Result, Ok, Err, if◌then◌else◌}
+use Rattle.std.specs.Prelude.{ℕ, List, Option, Some, None, Result, Ok, Err, count_by, is_some, map, set}
+use Rattle.chip_base.specs.UnitTable.{all_units, link_place}
+use Rattle.chip_base.specs.declared.chip_unit.ChipUnit.{ChipUnit}
+use Rattle.chip_base.specs.declared.chip_unit.ChipUnit.TheVariants.{Uart0, Uart1, Spi, Gpio, Pwm, Slink, Wdt}
 use Rattle.chip_base.specs.declared.message.Down.{Down}
 use Rattle.soc_bus.specs.declared.access.BusFault.{BusFault}
 use Rattle.soc_bus.specs.declared.access.BusFault.TheVariants.{Unmapped}
@@ -30,31 +33,43 @@ at_pwm f r reg None = record { front = f; word = part_of_word r (duty_word f reg
 at_pwm f r reg (Some value) = record { front = duty_stored f reg value; word = 0; down = duty_sent f reg value }
 
 -- the fronts after an access to a unit's registers
-abbrev pub fronts_after : Fronts → Request → ℕ → ℕ → Fronts
-fronts_after f r unit reg = record {
-  uart0 = if unit == 1 then (at_uart f.uart0 r reg r.store).front else f.uart0;
-  uart1 = if unit == 2 then (at_uart f.uart1 r reg r.store).front else f.uart1;
-  gpio = if unit == 4 then (at_gpio f.gpio r reg r.store).front else f.gpio;
-  pwm = if unit == 5 then (at_pwm f.pwm r reg r.store).front else f.pwm;
-}
+abbrev pub fronts_after : Fronts → Request → ChipUnit → ℕ → Fronts
+fronts_after f r Uart0 reg = record f { uart0 = (at_uart f.uart0 r reg r.store).front }
+fronts_after f r Uart1 reg = record f { uart1 = (at_uart f.uart1 r reg r.store).front }
+fronts_after f r Gpio reg = record f { gpio = (at_gpio f.gpio r reg r.store).front }
+fronts_after f r Pwm reg = record f { pwm = (at_pwm f.pwm r reg r.store).front }
+fronts_after f r Spi reg = f
+fronts_after f r Slink reg = f
+fronts_after f r Wdt reg = f
 
 -- the answer to its master; the registers of a unit that isn't built answer no access
-abbrev pub unit_answer : Fronts → Request → ℕ → ℕ → Result ℕ BusFault
-unit_answer f r unit reg =
-    if unit == 1 then Ok (at_uart f.uart0 r reg r.store).word
-    else if unit == 2 then Ok (at_uart f.uart1 r reg r.store).word
-    else if unit == 4 then Ok (at_gpio f.gpio r reg r.store).word
-    else if unit == 5 then Ok (at_pwm f.pwm r reg r.store).word
-    else Err Unmapped
+abbrev pub unit_answer : Fronts → Request → ChipUnit → ℕ → Result ℕ BusFault
+unit_answer f r Uart0 reg = Ok (at_uart f.uart0 r reg r.store).word
+unit_answer f r Uart1 reg = Ok (at_uart f.uart1 r reg r.store).word
+unit_answer f r Gpio reg = Ok (at_gpio f.gpio r reg r.store).word
+unit_answer f r Pwm reg = Ok (at_pwm f.pwm r reg r.store).word
+unit_answer f r Spi reg = Err Unmapped
+unit_answer f r Slink reg = Err Unmapped
+unit_answer f r Wdt reg = Err Unmapped
 
--- the messages that go down, unit 1 first
-abbrev pub unit_downs : Fronts → Request → ℕ → ℕ → List (Option Down)
-unit_downs f r unit reg =
-    (if unit == 1 then (at_uart f.uart0 r reg r.store).down else None)
-    ∷ (if unit == 2 then (at_uart f.uart1 r reg r.store).down else None)
-    ∷ None
-    ∷ (if unit == 4 then (at_gpio f.gpio r reg r.store).down else None)
-    ∷ (if unit == 5 then (at_pwm f.pwm r reg r.store).down else None)
-    ∷ None
-    ∷ None
-    ∷ []
+-- the message that goes down to the unit
+abbrev pub unit_down : Fronts → Request → ChipUnit → ℕ → Option Down
+unit_down f r Uart0 reg = (at_uart f.uart0 r reg r.store).down
+unit_down f r Uart1 reg = (at_uart f.uart1 r reg r.store).down
+unit_down f r Gpio reg = (at_gpio f.gpio r reg r.store).down
+unit_down f r Pwm reg = (at_pwm f.pwm r reg r.store).down
+unit_down f r Spi reg = None
+unit_down f r Slink reg = None
+unit_down f r Wdt reg = None
+
+-- no message for any of the seven units
+abbrev pub silent : List (Option Down)
+silent = map (λ unit. None) all_units
+
+-- this message for this unit, and none for the others
+abbrev pub only_to : ChipUnit → Option Down → List (Option Down)
+only_to unit down = set silent (link_place unit) down
+
+-- how many messages there are
+abbrev pub messages_in : List (Option Down) → ℕ
+messages_in downs = count_by is_some downs

@@ -1,18 +1,19 @@
 //! Accesses that were granted.
 ghost use Rattle.std.specs.Prelude.{◌≡◌, ◌≤◌, ◌*◌, ◌/◌, ◌-◌, ℕ, Ok, Err, IsTrue, length, set, true};
-ghost use Rattle.core_pair.specs.Clint.{clint_offsets, is_among};
-ghost use Rattle.core_pair.specs.Mailbox.{mailbox_offsets};
+ghost use Rattle.chip_base.specs.UnitTable.{part_has, unit_has};
+ghost use Rattle.chip_base.specs.declared.chip_unit.HubPart.TheVariants as part;
 ghost use Rattle.dma_unit.specs.Copier.{is_busy};
 ghost use Rattle.soc_bus.specs.Map.{admitted};
-ghost use Rattle.chip_hub.specs.Offsets.{dma_fits, fits_at, unit_fits};
-ghost use Rattle.chip_hub.specs.Access.{accessed, in_clint, in_device, in_dma, in_mailbox, in_memory, in_region, in_sysinfo, open_word, silent, sysinfo_word};
+ghost use Rattle.chip_hub.specs.Offsets.{fits_at};
+ghost use Rattle.chip_hub.specs.Access.{accessed, in_clint, in_device, in_dma, in_mailbox, in_memory, in_region, in_sysinfo, open_bit, open_word, sysinfo_word};
 ghost use Rattle.chip_hub.specs.Parts.{offset_in};
+ghost use Rattle.chip_hub.specs.Units.{only_to, silent};
 
 use crate::hub::Hub;
 use crate::parts::{offset_in, part_of_word};
 use crate::units::{AtFront, access_gpio, access_pwm, access_uart};
-use chip_base::Down;
 use chip_base::bits::bit_if;
+use chip_base::{ChipUnit, Down};
 use soc_bus::{BusFault, Region, Request, admit};
 
 /// The size in bytes of the CLINT's part of the map.
@@ -61,17 +62,24 @@ const fn refused(fault: BusFault) -> Access
     }
 }
 
-/// What an access to the registers of a unit gives, by the unit's number.
-fn at_unit(unit: u8, at: AtFront) -> Access
-    requires { (1 ≤ unit) × (unit ≤ 7) }
-    ensures { result ≡ record { answer = Ok at.word; downs = set silent (unit - 1) at.down } }
+/// What an access to the registers of a unit gives.
+fn at_unit(unit: ChipUnit, at: AtFront) -> Access
+    ensures { result ≡ record { answer = Ok at.word; downs = only_to unit at.down } }
 {
     let mut downs = SILENT;
-    downs[usize::from(unit) - 1] = at.down;
+    downs[unit.place()] = at.down;
     Access {
         answer: Ok(at.word),
         downs,
     }
+}
+
+/// A unit's bit in OPEN, where its front is open.
+fn open_bit(unit: ChipUnit, is_open: bool) -> u32
+    ensures value { result ≡ open_bit unit is_open }
+    ensures to { result ≤ 128 }
+{
+    bit_if(u32::from(unit.number()), is_open)
 }
 
 impl Hub {
@@ -92,7 +100,7 @@ impl Hub {
     }
 
     fn access_clint(&mut self, request: &Request) -> Access
-        requires { IsTrue (is_among clint_offsets (offset_in 0x10000 request.now)) }
+        requires { part_has part.Clint (offset_in 0x10000 request.now) ≡ true }
         ensures step { record { hub = self.new; answer = result.answer; downs = result.downs } ≡ in_clint self.old request.now request.now.store }
         ensures dma { self.new.dma ≡ self.old.dma }
     {
@@ -107,7 +115,7 @@ impl Hub {
     }
 
     fn access_mailbox(&mut self, request: &Request) -> Access
-        requires { IsTrue (is_among mailbox_offsets (offset_in 0x100 request.now)) }
+        requires { part_has part.Mailbox (offset_in 0x100 request.now) ≡ true }
         ensures step { record { hub = self.new; answer = result.answer; downs = result.downs } ≡ in_mailbox self.old request.now request.now.store }
         ensures dma { self.new.dma ≡ self.old.dma }
     {
@@ -122,7 +130,7 @@ impl Hub {
     }
 
     fn access_dma(&mut self, request: &Request) -> Access
-        requires { dma_fits (offset_in 0x100 request.now) ≡ true }
+        requires { part_has part.Dma (offset_in 0x100 request.now) ≡ true }
         ensures step { record { hub = self.new; answer = result.answer; downs = result.downs } ≡ in_dma self.old request.now request.now.store }
         ensures dma { is_busy self.old.dma.state ≡ true → self.new.dma ≡ self.old.dma }
     {
@@ -140,11 +148,13 @@ impl Hub {
     fn open_fronts(&self) -> u32
         ensures { result ≡ open_word self.now.fronts }
     {
-        bit_if(1, self.uart0.is_open())
-            + bit_if(2, self.uart1.is_open())
-            + bit_if(4, self.gpio.is_open())
-            + bit_if(5, self.pwm.is_open())
-            + 0xc8
+        open_bit(ChipUnit::Uart0, self.uart0.is_open())
+            + open_bit(ChipUnit::Uart1, self.uart1.is_open())
+            + open_bit(ChipUnit::Spi, true)
+            + open_bit(ChipUnit::Gpio, self.gpio.is_open())
+            + open_bit(ChipUnit::Pwm, self.pwm.is_open())
+            + open_bit(ChipUnit::Slink, true)
+            + open_bit(ChipUnit::Wdt, true)
     }
 
     /// The word of a register that tells the settings.
@@ -169,17 +179,19 @@ impl Hub {
         }
     }
 
-    fn access_device(&mut self, request: &Request, unit: u8, reg: u8) -> Access
-        requires { unit_fits unit reg ≡ true }
+    fn access_device(&mut self, request: &Request, unit: ChipUnit, reg: u8) -> Access
+        requires { unit_has unit reg ≡ true }
         ensures step { record { hub = self.new; answer = result.answer; downs = result.downs } ≡ in_device self.old request.now unit reg }
         ensures dma { self.new.dma ≡ self.old.dma }
     {
         match unit {
-            1 => at_unit(unit, access_uart(&mut self.uart0, request, reg)),
-            2 => at_unit(unit, access_uart(&mut self.uart1, request, reg)),
-            4 => at_unit(unit, access_gpio(&mut self.gpio, request, reg)),
-            5 => at_unit(unit, access_pwm(&mut self.pwm, request, reg)),
-            _ => refused(BusFault::Unmapped),
+            ChipUnit::Uart0 => at_unit(unit, access_uart(&mut self.uart0, request, reg)),
+            ChipUnit::Uart1 => at_unit(unit, access_uart(&mut self.uart1, request, reg)),
+            ChipUnit::Gpio => at_unit(unit, access_gpio(&mut self.gpio, request, reg)),
+            ChipUnit::Pwm => at_unit(unit, access_pwm(&mut self.pwm, request, reg)),
+            ChipUnit::Spi => refused(BusFault::Unmapped),
+            ChipUnit::Slink => refused(BusFault::Unmapped),
+            ChipUnit::Wdt => refused(BusFault::Unmapped),
         }
     }
 

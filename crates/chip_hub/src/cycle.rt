@@ -1,15 +1,16 @@
 //! One cycle of the hub.
 ghost use Rattle.std.specs.Prelude.{◌≡◌, ◌<◌, ◌≤◌, ◌+◌, ◌^◌, ℕ};
-ghost use Rattle.chip_hub.specs.Cycle.{heard, hub_cycle, served, served0, served1, served2, turn0, turn1, wants_of};
+ghost use Rattle.chip_hub.specs.Cycle.{heard, hub_cycle, served, served0, served1, served2, served_to, turn0, turn1, wants_of};
 ghost use Rattle.core_pair.specs.Core.{wanted_in};
 ghost use Rattle.dma_unit.specs.Copier.{wanted as dma_wanted};
 ghost use Rattle.chip_hub.specs.Lines.{fast_lines, mip_of};
 ghost use Rattle.chip_hub.specs.State.{Step};
+ghost use Rattle.chip_hub.specs.Units.{messages_in};
 
 use crate::access::SILENT;
 use crate::hub::Hub;
-use chip_base::bits::bit_if;
-use chip_base::{Cycle, Down, Up};
+use chip_base::chip_unit::fast_bit;
+use chip_base::{ChipUnit, Cycle, Down, HubPart, Up};
 use core_pair::Phase;
 use soc_bus::Master;
 
@@ -18,16 +19,16 @@ impl Hub {
     fn hear(&mut self, ups: &[Option<Up>; 7])
         ensures { self.new ≡ heard self.old ups.now }
     {
-        if let Some(up) = ups[0] {
+        if let Some(up) = ups[ChipUnit::Uart0.place()] {
             self.uart0.arrive(up);
         }
-        if let Some(up) = ups[1] {
+        if let Some(up) = ups[ChipUnit::Uart1.place()] {
             self.uart1.arrive(up);
         }
-        if let Some(up) = ups[3] {
+        if let Some(up) = ups[ChipUnit::Gpio.place()] {
             self.gpio.arrive(up);
         }
-        if let Some(up) = ups[4] {
+        if let Some(up) = ups[ChipUnit::Pwm.place()] {
             self.pwm.arrive(up);
         }
     }
@@ -37,10 +38,10 @@ impl Hub {
         ensures value { result ≡ fast_lines self.now }
         ensures below { result + 2 ^ 8 ≤ 2 ^ 32 }
     {
-        bit_if(16, self.dma.line())
-            + bit_if(17, self.uart0.line())
-            + bit_if(18, self.uart1.line())
-            + bit_if(20, self.gpio.line())
+        fast_bit(HubPart::Dma.fast_line(), self.dma.line())
+            + fast_bit(ChipUnit::Uart0.fast_line(), self.uart0.line())
+            + fast_bit(ChipUnit::Uart1.fast_line(), self.uart1.line())
+            + fast_bit(ChipUnit::Gpio.fast_line(), self.gpio.line())
     }
 
     /// What a read of mip gives to a hart.
@@ -120,11 +121,13 @@ impl Hub {
         access.downs
     }
 
-    /// One of the masters that want the bus is granted its access.
-    fn serve(&mut self) -> [Option<Down>; 7]
-        ensures { record { hub = self.new; downs = result } ≡ served self.old }
+    /// One of the masters that want the bus, by these bits, is granted its access.
+    #[tactic(auto, using(crate::proofs::Fronts::one_message))]
+    fn serve(&mut self, wants: u8) -> [Option<Down>; 7]
+        requires { wants < 8 }
+        ensures messages { messages_in result ≤ 1 }
+        ensures step { record { hub = self.new; downs = result } ≡ served self.old wants }
     {
-        let wants = self.wants();
         match self.arbiter.grant(wants) {
             Some(Master::Core0) => self.serve0(),
             Some(Master::Core1) => self.serve1(),
@@ -133,16 +136,18 @@ impl Hub {
         }
     }
 
-    /// One cycle: the arrivals by unit, the time, core 0's turn, core 1's turn, and one grant of the bus. It gives, for each unit,
-    /// the message that goes down to it.
+    /// One cycle: the arrivals by unit, the time, core 0's turn, core 1's turn, who wants the bus, and one grant of it. It gives, for
+    /// each unit, the message that goes down to it: at most one in all.
     #[tactic(auto, unfolding(crate::specs::Cycle::hub_cycle))]
     pub fn cycle(&mut self, now: Cycle, ups: &[Option<Up>; 7]) -> [Option<Down>; 7]
-        ensures { record { hub = self.new; downs = result } ≡ hub_cycle self.old now ups.now }
+        ensures messages { messages_in result ≤ 1 }
+        ensures step { record { hub = self.new; downs = result } ≡ hub_cycle self.old now ups.now }
     {
         self.hear(ups);
         self.clint.tick();
         self.turn0(now);
         self.turn1(now);
-        self.serve()
+        let wants = self.wants();
+        self.serve(wants)
     }
 }

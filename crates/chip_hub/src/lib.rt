@@ -5,9 +5,12 @@ mod access;
 mod cycle;
 pub mod hub;
 mod parts;
+pub mod start;
 mod units;
+mod views;
 
-pub use hub::{Hub, fits};
+pub use hub::Hub;
+pub use start::fits;
 
 #[cfg(test)]
 mod tests;

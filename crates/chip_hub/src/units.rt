@@ -1,5 +1,7 @@
 //! Accesses to the registers of the units, at their fronts.
-ghost use Rattle.std.specs.Prelude.{◌≡◌, ◌⊎◌, ℕ};
+ghost use Rattle.std.specs.Prelude.{◌≡◌, ◌⊎◌, ℕ, true};
+ghost use Rattle.chip_base.specs.UnitTable.{unit_has};
+ghost use Rattle.chip_base.specs.declared.chip_unit.ChipUnit.TheVariants.{Uart0, Gpio, Pwm};
 ghost use Rattle.chip_hub.specs.Units.{at_gpio, at_pwm, at_uart};
 
 use crate::parts::part_of_word;
@@ -14,8 +16,9 @@ pub(crate) struct AtFront {
     pub(crate) down: Option<Down>,
 }
 
+/// An access to the registers of a UART, which uart0 and uart1 have alike.
 pub(crate) fn access_uart(front: &mut UartFront, request: &Request, reg: u8) -> AtFront
-    requires { (reg ≡ 0) ⊎ (reg ≡ 4) }
+    requires { unit_has Uart0 reg ≡ true }
     ensures front { front.new ≡ (at_uart front.old request.now reg request.now.store).front }
     ensures word { result.word ≡ (at_uart front.old request.now reg request.now.store).word }
     ensures down { result.down ≡ (at_uart front.old request.now reg request.now.store).down }
@@ -33,7 +36,7 @@ pub(crate) fn access_uart(front: &mut UartFront, request: &Request, reg: u8) -> 
 }
 
 pub(crate) fn access_gpio(front: &mut GpioFront, request: &Request, reg: u8) -> AtFront
-    requires { (reg ≡ 0) ⊎ (reg ≡ 4) ⊎ (reg ≡ 8) ⊎ (reg ≡ 12) }
+    requires { unit_has Gpio reg ≡ true }
     ensures front { front.new ≡ (at_gpio front.old request.now reg request.now.store).front }
     ensures word { result.word ≡ (at_gpio front.old request.now reg request.now.store).word }
     ensures down { result.down ≡ (at_gpio front.old request.now reg request.now.store).down }
@@ -51,7 +54,7 @@ pub(crate) fn access_gpio(front: &mut GpioFront, request: &Request, reg: u8) -> 
 }
 
 pub(crate) fn access_pwm(front: &mut PwmFront, request: &Request, reg: u8) -> AtFront
-    requires { (reg ≡ 0) ⊎ (reg ≡ 4) ⊎ (reg ≡ 8) ⊎ (reg ≡ 12) ⊎ (reg ≡ 16) }
+    requires { unit_has Pwm reg ≡ true }
     ensures front { front.new ≡ (at_pwm front.old request.now reg request.now.store).front }
     ensures word { result.word ≡ (at_pwm front.old request.now reg request.now.store).word }
     ensures down { result.down ≡ (at_pwm front.old request.now reg request.now.store).down }

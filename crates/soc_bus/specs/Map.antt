@@ -1,6 +1,10 @@
 -- The address map.
-use Rattle.std.specs.Prelude.{◌≡◌, ℕ, ◌+◌, ◌-◌, ◌*◌, ◌/◌, ◌%◌, ◌^◌, ◌==◌, ◌&&◌, nat_le, nat_lt, not, Bool, true, false, List, [], ◌∷◌, ◌++◌, map, Option, Some, None, Result, Ok, Err, if◌then◌else◌}
+use Rattle.std.specs.Prelude.{◌≡◌, ℕ, ◌+◌, ◌-◌, ◌*◌, ◌/◌, ◌%◌, ◌^◌, ◌==◌, ◌&&◌, nat_le, nat_lt, not, Bool, true, false, List, [], ◌∷◌, ◌++◌, flat_map, map, Option, Some, None, Result, Ok, Err, if◌then◌else◌}
 use Rattle.std.specs.Option.{is_some, MatchOption}
+use Rattle.chip_base.specs.UnitTable.{all_parts, all_units, part_row, unit_row}
+use Rattle.chip_base.specs.declared.chip_unit.ChipUnit.{ChipUnit}
+use Rattle.chip_base.specs.declared.chip_unit.HubPart.{HubPart}
+use Rattle.chip_base.specs.declared.chip_unit.HubPart.TheVariants as part
 use Rattle.soc_bus.specs.Access.{width_bytes}
 use Rattle.soc_bus.specs.Memory.{Memories, place_of}
 use Rattle.soc_bus.specs.declared.access.BusFault.{BusFault}
@@ -14,28 +18,22 @@ pub record Register : Type 0 where
   pub address : ℕ
   pub region : Region
 
--- registers of a part of the hub
-abbrev pub registers_of : Region → ℕ → List ℕ → List Register
-registers_of region base offsets = map (λ offset. record { address = base + offset; region = region }) offsets
+-- where an access to a part of the hub goes
+abbrev pub part_region : HubPart → Region
+part_region part.Dma = Dma
+part_region part.Clint = Clint
+part_region part.Sysinfo = Sysinfo
+part_region part.Mailbox = Mailbox
 
--- registers of a unit
-abbrev pub unit_registers : ℕ → ℕ → List ℕ → List Register
-unit_registers unit base offsets = map (λ offset. record { address = base + offset; region = Device unit offset }) offsets
+abbrev pub unit_registers : ChipUnit → List Register
+unit_registers unit = map (λ offset. record { address = (unit_row unit).base + offset; region = Device unit offset }) (unit_row unit).offsets
 
--- all registers: a base address and the offsets of the words there
+abbrev pub part_registers : HubPart → List Register
+part_registers part = map (λ offset. record { address = (part_row part).base + offset; region = part_region part }) (part_row part).offsets
+
+-- all registers
 unfoldable pub registers : List Register
-registers =
-    unit_registers 6 0xffec0000 (0 ∷ 4 ∷ 8 ∷ [])
-    ++ registers_of Dma 0xffed0000 (0 ∷ 4 ∷ 8 ∷ 12 ∷ 16 ∷ [])
-    ++ unit_registers 5 0xfff00000 (0 ∷ 4 ∷ 8 ∷ 12 ∷ 16 ∷ [])
-    ++ registers_of Clint 0xfff40000 (0 ∷ 4 ∷ 0x4000 ∷ 0x4004 ∷ 0x4008 ∷ 0x400c ∷ 0xbff8 ∷ 0xbffc ∷ [])
-    ++ unit_registers 1 0xfff50000 (0 ∷ 4 ∷ [])
-    ++ unit_registers 2 0xfff60000 (0 ∷ 4 ∷ [])
-    ++ unit_registers 3 0xfff80000 (0 ∷ 4 ∷ 8 ∷ [])
-    ++ unit_registers 7 0xfffb0000 (0 ∷ 4 ∷ 8 ∷ [])
-    ++ unit_registers 4 0xfffc0000 (0 ∷ 4 ∷ 8 ∷ 12 ∷ [])
-    ++ registers_of Sysinfo 0xfffe0000 (0 ∷ 4 ∷ 8 ∷ 12 ∷ [])
-    ++ registers_of Mailbox 0xfffe0100 (0 ∷ 4 ∷ [])
+registers = flat_map unit_registers all_units ++ flat_map part_registers all_parts
 
 -- what the word at an address belongs to
 abbrev pub word_in : ℕ → List Register → Option Region

@@ -32,3 +32,8 @@ granted turns wants = find (wants_it wants) (order_after turns.last)
 -- the last served master after a grant
 abbrev pub after_grant : Turns → ℕ → Turns
 after_grant turns wants = record { last = unwrap_or (granted turns wants) turns.last }
+
+-- who is served, one grant after another, where these are the wants of each
+abbrev pub served_in_turn : Turns → List ℕ → List (Option Master)
+served_in_turn turns [] = []
+served_in_turn turns (wants ∷ rest) = granted turns wants ∷ served_in_turn (after_grant turns wants) rest

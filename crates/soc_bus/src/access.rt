@@ -2,6 +2,8 @@
 ghost use Rattle.std.specs.Prelude.{◌≡◌};
 ghost use Rattle.soc_bus.specs.Access.{width_bytes};
 
+use chip_base::ChipUnit;
+
 /// How many bytes an access has.
 #[derive(Clone, Copy, Debug, PartialEq, Eq)]
 pub enum Width {
@@ -62,7 +64,6 @@ pub enum Region {
     Sysinfo,
     /// The copier of words.
     Dma,
-    /// A unit's registers: uart0 1, uart1 2, spi 3, gpio 4, pwm 5, slink 6, wdt 7. `reg` is the offset, in bytes, of the
-    /// register in whose word the address lies.
-    Device { unit: u8, reg: u8 },
+    /// A unit's registers. `reg` is the offset, in bytes, of the register in whose word the address lies.
+    Device { unit: ChipUnit, reg: u8 },
 }

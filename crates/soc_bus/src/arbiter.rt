@@ -1,6 +1,7 @@
 //! Who is served where several masters want the bus.
-ghost use Rattle.std.specs.Prelude.{◌≡◌, ◌<◌, IsNone, IfNone};
-ghost use Rattle.soc_bus.specs.Rotation.{Turns, granted, after_grant, next_of, wants_it};
+ghost use Rattle.std.specs.Prelude.{◌≡◌, ◌<◌, ℕ, [], ◌∷◌, Contains, IsNone, IfNone, Some, true};
+ghost use Rattle.soc_bus.specs.Rotation.{Turns, granted, after_grant, next_of, served_in_turn, wants_it};
+ghost use Rattle.soc_bus.specs.declared.arbiter.Master.{Master};
 ghost use Rattle.soc_bus.specs.declared.arbiter.Master.TheVariants.{Core0, Core1, Dma};
 
 use std::marker::Model;
@@ -66,6 +67,9 @@ impl Arbiter {
         ensures served { result ≡ granted self.old wants }
         ensures turns { self.new ≡ after_grant self.old wants }
         ensures none { IsNone result → wants ≡ 0 }
+        // A master that goes on wanting is served within three grants, whoever else wants.
+        ensures soon { (master : Master) (second third : ℕ) → wants_it wants master ≡ true → wants_it second master ≡ true → wants_it third master ≡ true
+            → Contains (served_in_turn self.old (wants ∷ second ∷ third ∷ [])) (Some master) }
         ensures idle { wants ≡ 0 → (result ≡ None) × (self.new ≡ self.old) }
     {
         let first = self.last.next();

@@ -7,6 +7,7 @@ ghost use Rattle.soc_bus.specs.declared.access.Region.TheVariants.{Device};
 
 use crate::access::{BusFault, Region, Request, Width};
 use crate::memory::DMEM;
+use chip_base::ChipUnit;
 
 // the upper halves of the devices' addresses
 const SLINK: u32 = 0xffec;
@@ -91,17 +92,17 @@ fn register_at(upper: u32, lower: u32) -> Option<Region>
     ensures { result ≡ on_page upper lower registers }
 {
     match (upper, lower) {
-        (SLINK, 0 | 4 | 8) => unit_register(6, lower),
+        (SLINK, 0 | 4 | 8) => unit_register(ChipUnit::Slink, lower),
         (DMA, 0 | 4 | 8 | 12 | 16) => Some(Region::Dma),
-        (PWM, 0 | 4 | 8 | 12 | 16) => unit_register(5, lower),
+        (PWM, 0 | 4 | 8 | 12 | 16) => unit_register(ChipUnit::Pwm, lower),
         (CLINT, 0 | 4) => Some(Region::Clint),
         (CLINT, 0x4000 | 0x4004 | 0x4008 | 0x400c) => Some(Region::Clint),
         (CLINT, 0xbff8 | 0xbffc) => Some(Region::Clint),
-        (UART0, 0 | 4) => unit_register(1, lower),
-        (UART1, 0 | 4) => unit_register(2, lower),
-        (SPI, 0 | 4 | 8) => unit_register(3, lower),
-        (WDT, 0 | 4 | 8) => unit_register(7, lower),
-        (GPIO, 0 | 4 | 8 | 12) => unit_register(4, lower),
+        (UART0, 0 | 4) => unit_register(ChipUnit::Uart0, lower),
+        (UART1, 0 | 4) => unit_register(ChipUnit::Uart1, lower),
+        (SPI, 0 | 4 | 8) => unit_register(ChipUnit::Spi, lower),
+        (WDT, 0 | 4 | 8) => unit_register(ChipUnit::Wdt, lower),
+        (GPIO, 0 | 4 | 8 | 12) => unit_register(ChipUnit::Gpio, lower),
         (SYSTEM, 0 | 4 | 8 | 12) => Some(Region::Sysinfo),
         (SYSTEM, 0x100 | 0x104) => Some(Region::Mailbox),
         _ => None,
@@ -109,7 +110,7 @@ fn register_at(upper: u32, lower: u32) -> Option<Region>
 }
 
 /// A register of a unit.
-fn unit_register(unit: u8, reg: u32) -> Option<Region>
+fn unit_register(unit: ChipUnit, reg: u32) -> Option<Region>
     requires { reg < 256 }
     ensures { result ≡ Some (Device unit reg) }
 {

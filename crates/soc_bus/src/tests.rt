@@ -1,6 +1,7 @@
 //! Accesses at the edges of the map, and the arbiter's rotation.
 
 use crate::{Arbiter, BusFault, Master, Memory, Region, Request, Width, admit};
+use chip_base::ChipUnit;
 use std::test::Fail;
 
 #[test]
@@ -54,7 +55,7 @@ fn admits_by_the_map(rt: HostRuntime) {
             0xffec_0008,
             Width::Word,
             store,
-            Ok(Region::Device { unit: 6, reg: 8 }),
+            Ok(Region::Device { unit: ChipUnit::Slink, reg: 8 }),
         ),
         (0xffed_0010, Width::Word, None, Ok(Region::Dma)),
         (0xffed_0014, Width::Word, None, Err(BusFault::Unmapped)),
@@ -62,7 +63,7 @@ fn admits_by_the_map(rt: HostRuntime) {
             0xfff0_0010,
             Width::Word,
             store,
-            Ok(Region::Device { unit: 5, reg: 16 }),
+            Ok(Region::Device { unit: ChipUnit::Pwm, reg: 16 }),
         ),
         (0xfff4_400c, Width::Word, store, Ok(Region::Clint)),
         (0xfff4_bffe, Width::Half, None, Ok(Region::Clint)),
@@ -70,7 +71,7 @@ fn admits_by_the_map(rt: HostRuntime) {
             0xfff5_0005,
             Width::Byte,
             None,
-            Ok(Region::Device { unit: 1, reg: 4 }),
+            Ok(Region::Device { unit: ChipUnit::Uart0, reg: 4 }),
         ),
         (0xfff5_0005, Width::Byte, store, Err(BusFault::Narrow)),
         (0xfff5_0005, Width::Half, store, Err(BusFault::Misaligned)),
@@ -78,26 +79,26 @@ fn admits_by_the_map(rt: HostRuntime) {
             0xfff6_0000,
             Width::Word,
             store,
-            Ok(Region::Device { unit: 2, reg: 0 }),
+            Ok(Region::Device { unit: ChipUnit::Uart1, reg: 0 }),
         ),
         (
             0xfff8_0008,
             Width::Word,
             store,
-            Ok(Region::Device { unit: 3, reg: 8 }),
+            Ok(Region::Device { unit: ChipUnit::Spi, reg: 8 }),
         ),
         (0xfffb_0008, Width::Half, store, Err(BusFault::Narrow)),
         (
             0xfffb_0004,
             Width::Word,
             store,
-            Ok(Region::Device { unit: 7, reg: 4 }),
+            Ok(Region::Device { unit: ChipUnit::Wdt, reg: 4 }),
         ),
         (
             0xfffc_000c,
             Width::Word,
             store,
-            Ok(Region::Device { unit: 4, reg: 12 }),
+            Ok(Region::Device { unit: ChipUnit::Gpio, reg: 12 }),
         ),
         (0xfffe_000c, Width::Word, store, Ok(Region::Sysinfo)),
         (0xfffe_0104, Width::Word, store, Ok(Region::Mailbox)),

@@ -1,0 +1,27 @@
+-- The hub at power-on: a definition.
+use Rattle.std.specs.Prelude.{◌==◌, ℕ, ◌+◌, List, ◌++◌, drop, length, if◌then◌else◌}
+use Rattle.chip_base.specs.Settings.{Values}
+use Rattle.core_pair.specs.Clint.{reset_clint}
+use Rattle.core_pair.specs.Core.{reset_core}
+use Rattle.core_pair.specs.Mailbox.{reset_mailbox}
+use Rattle.soc_bus.specs.Memory.{zeros}
+use Rattle.soc_bus.specs.declared.arbiter.Master.TheVariants.{Dma}
+use Rattle.dma_unit.specs.Copier.{reset_copier}
+use Rattle.unit_fronts.specs.GpioFront.{reset_owing as pins_reset}
+use Rattle.unit_fronts.specs.Port.{reset_owing}
+use Rattle.unit_fronts.specs.PwmFront.{reset_owing as duty_reset}
+use Rattle.chip_hub.specs.State.{State}
+
+-- the hub at power-on, with these bytes from address 0 of IMEM
+unfoldable pub start : Values → List ℕ → State
+start v image = record {
+  clock = v.clock;
+  core0 = reset_core 0;
+  core1 = reset_core 1;
+  memory = record { imem = image ++ drop (length image) (zeros v.imem); dmem = zeros v.dmem };
+  arbiter = record { last = Dma };
+  dma = reset_copier;
+  clint = reset_clint;
+  mailbox = reset_mailbox;
+  fronts = record { uart0 = reset_owing 0; uart1 = reset_owing 0; gpio = pins_reset 0; pwm = duty_reset 0 };
+}
