@@ -1,5 +1,5 @@
 -- What one cycle of the hub does to the fronts of its units.
-use Rattle.std.proofs.Common.{◌≡◌, ◌≤◌, ◌+◌, ◌-◌, ℕ, Bool, true, false, eqb, List, Option, None, Some, Result, Ok, Err, refl, arith}
+use Rattle.std.proofs.Common.{◌≡◌, ◌≤◌, ◌+◌, ◌-◌, ℕ, Bool, true, false, eqb, List, Option, None, Some, Result, Ok, Err, refl, sym, subst, arith}
 use Rattle.std.specs.Prelude.{◌==◌, get_or, ◌&&◌, not, if◌then◌else◌}
 use Rattle.std.proofs.lemmas.Bool.Decides.{nat_tests}
 use Rattle.chip_base.specs.declared.message.Down.{Down}
@@ -26,7 +26,7 @@ use Rattle.unit_fronts.specs.UartFront.{loaded, stored, store_sent}
 use Rattle.unit_fronts.proofs.Counts.{loads, spends}
 use Rattle.chip_hub.specs.Access.{accessed, accessed_by, in_clint, in_device, in_dma, in_mailbox, in_memory, in_region, in_sysinfo, memory_stored}
 use Rattle.chip_hub.specs.Cycle.{heard, heard_by_gpio, heard_by_pwm, hub_cycle, served, served0, served1, served2, served_to, timed, turn0, turn1, wants_of}
-use Rattle.chip_hub.specs.State.{Fronts, State}
+use Rattle.chip_hub.specs.State.{Fronts, State, Step}
 use Rattle.chip_hub.specs.Units.{at_gpio, at_pwm, at_uart, fronts_after, messages_in, only_to, silent, unit_down}
 
 -- a relation between the fronts before an access, the fronts after it and the messages that go down holds of every access
@@ -135,12 +135,15 @@ one_to Slink (Some m) = omega arith
 one_to Wdt None = omega arith
 one_to Wdt (Some m) = omega arith
 
--- a grant sends at most one message down
-pub one_message : (s : State) (wants : ℕ) → messages_in (served s wants).downs ≤ 1
+one_message : (s : State) (wants : ℕ) → messages_in (served s wants).downs ≤ 1
 one_message = served_fronts (λ old new downs. messages_in downs ≤ 1) (record {
   quiet = λ f. omega arith;
   device = λ s r unit reg. one_to unit (unit_down s.fronts r unit reg);
 })
+
+-- what a grant sends down is one message at most
+pub one_sent : (s : State) (wants : ℕ) (step : Step) → step ≡ served s wants → messages_in step.downs ≤ 1
+one_sent s wants step e = subst (λ x. messages_in x.downs ≤ 1) (sym e) (one_message s wants)
 
 -- what an access does to a front, and the message that it sends down
 pub record ServesPort (takes : ℕ → Bool) (old : Port) (down : Option Down) (new : Port) : Type 0 where

@@ -122,11 +122,9 @@ impl Hub {
     }
 
     /// One of the masters that want the bus, by these bits, is granted its access.
-    #[tactic(auto, using(crate::proofs::Fronts::one_message))]
     fn serve(&mut self, wants: u8) -> [Option<Down>; 7]
         requires { wants < 8 }
-        ensures messages { messages_in result ≤ 1 }
-        ensures step { record { hub = self.new; downs = result } ≡ served self.old wants }
+        ensures { record { hub = self.new; downs = result } ≡ served self.old wants }
     {
         match self.arbiter.grant(wants) {
             Some(Master::Core0) => self.serve0(),

@@ -7,6 +7,9 @@ use Rattle.std.specs.Fmt.{decimal}
 use Rattle.std.specs.List.{concat, list_all}
 use Rattle.std.specs.Prelude.{nat_lt}
 use Rattle.std.specs.Str.{IsAscii, IsUtf8}
+use Rattle.chip_base.specs.UnitTable.{link_place, unit_row}
+use Rattle.chip_base.specs.declared.chip_unit.ChipUnit.{ChipUnit}
+use Rattle.chip_base.specs.declared.chip_unit.ChipUnit.TheVariants.{Uart0, Uart1, Spi, Gpio, Pwm, Slink, Wdt}
 use Rattle.chip_base.specs.Ranges.{is_delay}
 use Rattle.chip_base.specs.Settings.{Values}
 use Rattle.text_fields.specs.Fields.{Text}
@@ -67,17 +70,17 @@ plain_utf8 v c i d p b = (
   ),
 )
 
-delay_utf8 : (key : Text) (place : ℕ) (v : Values) → list_all is_low key ≡ true → list_all is_delay v.delay ≡ true → IsUtf8 (delay_line key place v)
-delay_utf8 key place v plain all = number_utf8 key (slice_index v.delay place) plain (delay_small v.delay place all)
+delay_utf8 : (unit : ChipUnit) (v : Values) → list_all is_low (unit_row unit).name ≡ true → list_all is_delay v.delay ≡ true → IsUtf8 (delay_line unit v)
+delay_utf8 unit v plain all = number_utf8 (unit_row unit).name (slice_index v.delay (link_place unit)) plain (delay_small v.delay (link_place unit) all)
 
 first_utf8 : (v : Values) → list_all is_delay v.delay ≡ true → AllUtf8 (first_delays v)
 first_utf8 v all = (
   header_utf8,
-  (delay_utf8 (codes "uart0") 0 v refl all, (delay_utf8 (codes "uart1") 1 v refl all, (delay_utf8 (codes "spi") 2 v refl all, (delay_utf8 (codes "gpio") 3 v refl all, tt)))),
+  (delay_utf8 Uart0 v refl all, (delay_utf8 Uart1 v refl all, (delay_utf8 Spi v refl all, (delay_utf8 Gpio v refl all, tt)))),
 )
 
 last_utf8 : (v : Values) → list_all is_delay v.delay ≡ true → AllUtf8 (last_delays v)
-last_utf8 v all = (delay_utf8 (codes "pwm") 4 v refl all, (delay_utf8 (codes "slink") 5 v refl all, (delay_utf8 (codes "wdt") 6 v refl all, tt)))
+last_utf8 v all = (delay_utf8 Pwm v refl all, (delay_utf8 Slink v refl all, (delay_utf8 Wdt v refl all, tt)))
 
 pub chip_utf8 : (v : Values) → v.clock < 2 ^ 64 → v.imem < 2 ^ 64 → v.dmem < 2 ^ 64 → v.prescaler < 2 ^ 64 → v.baud < 2 ^ 64 → list_all is_delay v.delay ≡ true → IsUtf8 (chip_text v)
 chip_utf8 v c i d p b all =

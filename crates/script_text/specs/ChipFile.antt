@@ -1,9 +1,10 @@
 -- What a chip file means.
-use Rattle.std.specs.Prelude.{ℕ, pos, negsuc, ◌%◌, ◌==◌, ◌&&◌, Bool, true, false, List, Result, Ok, Err, Option, Some, None, codes, if◌then◌else◌, nat_le, slice_set}
+use Rattle.std.specs.Prelude.{ℕ, pos, negsuc, ◌%◌, ◌==◌, ◌&&◌, Bool, true, false, List, Result, Ok, Err, Option, Some, None, codes, if◌then◌else◌, nat_le, option_map, slice_set}
 use Rattle.std.specs.Str.{bytes_eq}
 use Rattle.toml.specs.Data.{Data, integer, boolean, table, Members, no_members, member}
 use Rattle.toml.specs.Parse.{parse_document}
 use Rattle.chip_base.specs.Settings.{Values, standard}
+use Rattle.chip_base.specs.UnitTable.{link_place, unit_named}
 use Rattle.script_text.specs.declared.chip.KeyFault.{KeyFault}
 use Rattle.script_text.specs.declared.chip.KeyFault.TheVariants as fault
 use Rattle.script_text.specs.Faults.{Fault}
@@ -45,15 +46,7 @@ read_plain key d v =
 
 -- the place of a unit's delay
 abbrev pub delay_place : Text → Option ℕ
-delay_place key =
-    if bytes_eq key (codes "uart0") then Some 0
-    else if bytes_eq key (codes "uart1") then Some 1
-    else if bytes_eq key (codes "spi") then Some 2
-    else if bytes_eq key (codes "gpio") then Some 3
-    else if bytes_eq key (codes "pwm") then Some 4
-    else if bytes_eq key (codes "slink") then Some 5
-    else if bytes_eq key (codes "wdt") then Some 6
-    else None
+delay_place key = option_map link_place (unit_named key)
 
 abbrev pub with_delay : ℕ → ℕ → Values → Values
 with_delay place n v = record v { delay = slice_set v.delay place n }

@@ -1,8 +1,11 @@
 -- What is printed for a chip's settings.
-use Rattle.std.specs.Prelude.{ℕ, Bool, List, [], ◌∷◌, ◌++◌, codes, if◌then◌else◌, slice_index}
+use Rattle.std.specs.Prelude.{Bool, List, [], ◌∷◌, ◌++◌, codes, if◌then◌else◌, slice_index}
 use Rattle.std.specs.List.{concat}
 use Rattle.std.specs.Fmt.{decimal}
 use Rattle.chip_base.specs.Settings.{Values}
+use Rattle.chip_base.specs.UnitTable.{link_place, unit_row}
+use Rattle.chip_base.specs.declared.chip_unit.ChipUnit.{ChipUnit}
+use Rattle.chip_base.specs.declared.chip_unit.ChipUnit.TheVariants.{Uart0, Uart1, Spi, Gpio, Pwm, Slink, Wdt}
 use Rattle.script_text.specs.ChipFile.{Text}
 
 unfoldable pub pair_line : Text → Text → Text
@@ -20,24 +23,24 @@ plain_lines v = pair_line (codes "clock") (decimal v.clock)
     ∷ pair_line (codes "flash") (flag_text v.flash)
     ∷ []
 
-abbrev pub delay_line : Text → ℕ → Values → Text
-delay_line key place v = pair_line key (decimal (slice_index v.delay place))
+abbrev pub delay_line : ChipUnit → Values → Text
+delay_line unit v = pair_line (unit_row unit).name (decimal (slice_index v.delay (link_place unit)))
 
 unfoldable pub delay_header : Text
 delay_header = codes "[delay]\n"
 
 abbrev pub first_delays : Values → List Text
 first_delays v = delay_header
-    ∷ delay_line (codes "uart0") 0 v
-    ∷ delay_line (codes "uart1") 1 v
-    ∷ delay_line (codes "spi") 2 v
-    ∷ delay_line (codes "gpio") 3 v
+    ∷ delay_line Uart0 v
+    ∷ delay_line Uart1 v
+    ∷ delay_line Spi v
+    ∷ delay_line Gpio v
     ∷ []
 
 abbrev pub last_delays : Values → List Text
-last_delays v = delay_line (codes "pwm") 4 v
-    ∷ delay_line (codes "slink") 5 v
-    ∷ delay_line (codes "wdt") 6 v
+last_delays v = delay_line Pwm v
+    ∷ delay_line Slink v
+    ∷ delay_line Wdt v
     ∷ []
 
 abbrev pub chip_text : Values → Text

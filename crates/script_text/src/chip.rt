@@ -6,7 +6,7 @@ ghost use Rattle.chip_base.specs.Settings.{Values, standard, values_of};
 ghost use Rattle.script_text.specs.ChipRead.{IsChipAnswer, NamesFault, fault_view, read_view};
 ghost use Rattle.script_text.specs.ChipFile.{at_key, boolean_in, delay_place, integer_in, is_in, read_at, read_delay, read_delays, read_key, read_keys, read_plain, with_value};
 
-use chip_base::{Bytes, Setup};
+use chip_base::{Bytes, ChipUnit, Setup};
 use std::alloc::{AllocError, Global};
 use toml::{Table, Value};
 
@@ -70,15 +70,9 @@ fn place_of(key: &str) -> Option<usize>
     ensures value { result ≡ delay_place key.now }
     ensures bound { IfSome result (λ p. p < 7) }
 {
-    match key {
-        "uart0" => Some(0),
-        "uart1" => Some(1),
-        "spi" => Some(2),
-        "gpio" => Some(3),
-        "pwm" => Some(4),
-        "slink" => Some(5),
-        "wdt" => Some(6),
-        _ => None,
+    match ChipUnit::named(key) {
+        Some(unit) => Some(unit.place()),
+        None => None,
     }
 }
 

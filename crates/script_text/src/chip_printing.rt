@@ -2,7 +2,7 @@
 ghost use Rattle.std.specs.Prelude.{◌≡◌, ◌++◌, IfOk, Ok, Some};
 ghost use Rattle.std.specs.Fmt.{decimal};
 ghost use Rattle.chip_base.specs.Settings.{values_of};
-ghost use Rattle.script_text.specs.ChipText.{chip_text, delay_header, first_delays, last_delays, flag_text, pair_line, plain_lines};
+ghost use Rattle.script_text.specs.ChipText.{chip_text, delay_header, delay_line, first_delays, last_delays, flag_text, pair_line, plain_lines};
 ghost use Rattle.std.specs.List.{concat};
 ghost use Rattle.std.specs.Prelude.{Result};
 ghost use Rattle.std.specs.Str.{IsUtf8};
@@ -11,7 +11,7 @@ ghost use Rattle.script_text.specs.ChipRead.{IsChipAnswer, IsSettingsOrMemory};
 ghost use Rattle.script_text.specs.declared.chip.SetupFault.{SetupFault};
 ghost use Rattle.chip_base.specs.declared.setup.Setup.{Setup};
 
-use chip_base::{NoMemory, Setup};
+use chip_base::{ChipUnit, NoMemory, Setup};
 use std::alloc::{AllocError, Global};
 
 /// Appends `key = number`.
@@ -58,24 +58,36 @@ fn header_line(out: &mut Vec<u8>) -> Result<(), AllocError>
     out.extend_from_slice(b"[delay]\n")
 }
 
+/// Appends the line of a unit's delay.
+fn delay_line(
+    alloc: Global,
+    out: &mut Vec<u8>,
+    setup: &Setup,
+    unit: ChipUnit,
+) -> Result<(), AllocError>
+    ensures { IfOk result (λ _. out.new.items ≡ out.old.items ++ delay_line unit (values_of setup.now)) }
+{
+    number_line(alloc, out, unit.name(), setup.delay[unit.place()])
+}
+
 /// Appends the head of the table of delays and its first four lines.
 fn first_delays(alloc: Global, out: &mut Vec<u8>, setup: &Setup) -> Result<(), AllocError>
     ensures { IfOk result (λ _. out.new.items ≡ out.old.items ++ concat (first_delays (values_of setup.now))) }
 {
     header_line(out)?;
-    number_line(alloc, out, "uart0", setup.delay[0])?;
-    number_line(alloc, out, "uart1", setup.delay[1])?;
-    number_line(alloc, out, "spi", setup.delay[2])?;
-    number_line(alloc, out, "gpio", setup.delay[3])
+    delay_line(alloc, out, setup, ChipUnit::Uart0)?;
+    delay_line(alloc, out, setup, ChipUnit::Uart1)?;
+    delay_line(alloc, out, setup, ChipUnit::Spi)?;
+    delay_line(alloc, out, setup, ChipUnit::Gpio)
 }
 
 /// Appends the last three delays.
 fn last_delays(alloc: Global, out: &mut Vec<u8>, setup: &Setup) -> Result<(), AllocError>
     ensures { IfOk result (λ _. out.new.items ≡ out.old.items ++ concat (last_delays (values_of setup.now))) }
 {
-    number_line(alloc, out, "pwm", setup.delay[4])?;
-    number_line(alloc, out, "slink", setup.delay[5])?;
-    number_line(alloc, out, "wdt", setup.delay[6])
+    delay_line(alloc, out, setup, ChipUnit::Pwm)?;
+    delay_line(alloc, out, setup, ChipUnit::Slink)?;
+    delay_line(alloc, out, setup, ChipUnit::Wdt)
 }
 
 /// The text of a chip file.

@@ -17,47 +17,17 @@ fn is_refused(alloc: Global, text: &[u8], line: u32, kind: ScriptKind) -> bool {
     }
 }
 
+/// One fault of each kind, in the first faulty line and in a line's first faulty field.
 #[test]
 fn refuses_scripts(rt: HostRuntime) {
     for (text, line, kind) in [
         (b"pin 4 0 1\npin 5 32 1\n".as_slice(), 2, ScriptKind::Pin),
-        (b"pin 5 1 2", 1, ScriptKind::Pin),
         (b"# pins\r\n\r\nuart2 image\n", 3, ScriptKind::Word),
-        (b"uart0 wait 5", 1, ScriptKind::Word),
-        (b"uart1\n", 1, ScriptKind::Word),
-        (b"pin 1 2", 1, ScriptKind::Word),
-        (b"pin 1", 1, ScriptKind::Word),
-        (b"uart0 at", 1, ScriptKind::Word),
-        (b"uart0 expect", 1, ScriptKind::Word),
-        (b"uart0 send", 1, ScriptKind::Word),
-        (b"uart0 hex", 1, ScriptKind::Word),
-        (b"uart0 image now", 1, ScriptKind::Word),
-        (b"pin 5 1 1 1", 1, ScriptKind::Word),
-        (b"uart0 at 5 6", 1, ScriptKind::Word),
-        (b"uart0 expect \"a\" b", 1, ScriptKind::Word),
-        (b"uart0 send \"a\" \"b\"", 1, ScriptKind::Word),
-        (b"uart0 hex 41 42", 1, ScriptKind::Word),
         (b"pin 5 1 1\nuart0 wait\npin x\n", 2, ScriptKind::Word),
-        (b"pin x", 1, ScriptKind::Number),
         (b"pin 5 x 9", 1, ScriptKind::Number),
-        (b"pin 5 1 x", 1, ScriptKind::Number),
-        (b"pin 5 4294967296 1", 1, ScriptKind::Number),
-        (b"uart1 at 00000000001", 1, ScriptKind::Number),
-        (b"pin 5 1 1\r", 1, ScriptKind::Number),
-        (b"pin 5 1 1\r\r\n", 1, ScriptKind::Number),
         (b"pin 5 1 1\n\npin 4 40 1\nuart0\n", 3, ScriptKind::Order),
         (b"uart0 hex 41f", 1, ScriptKind::Hex),
-        (b"uart0 hex 4g", 1, ScriptKind::Hex),
-        (b"uart0 send \"a\"b", 1, ScriptKind::Text),
-        (b"uart0 send \"a", 1, ScriptKind::Text),
-        (b"uart0 send a", 1, ScriptKind::Text),
-        (b"uart0 send \"\\q\"", 1, ScriptKind::Text),
         (b"uart0 expect \"\" x", 1, ScriptKind::Text),
-        (
-            b"uart0 expect \"0123456789abcdef0123456789abcdef0123456789abcdef0123456789abcdefg\"",
-            1,
-            ScriptKind::Text,
-        ),
     ] {
         assert!(&rt; is_refused(rt.alloc(), text, line, kind));
     }
@@ -80,19 +50,13 @@ fn is_printed(alloc: Global, text: &[u8], printed: &[u8]) -> bool {
 #[test]
 fn prints_scripts(rt: HostRuntime) {
     for (text, printed) in [
-        (b"".as_slice(), b"".as_slice()),
-        (b"uart0 send \"A\\r\"", b"uart0 hex 410d\n"),
         (
-            b"#\r\n\tuart1 image\npin 7 3 0\r\nuart0 expect \"> \"\nuart0 send \"\"\nuart0 at 10\n",
-            b"pin 7 3 0\nuart0 expect \"> \"\nuart0 send \"\"\nuart0 at 10\nuart1 image\n",
+            b"#\r\n\tuart1 image\npin 7 3 0\r\nuart0 expect \"> \"\nuart0 send \"\"\nuart0 at 10\n".as_slice(),
+            b"pin 7 3 0\nuart0 expect \"> \"\nuart0 send \"\"\nuart0 at 10\nuart1 image\n".as_slice(),
         ),
         (
-            b"pin 0 0 0\npin 0 31 01\npin 4294967295 1 0\nuart1 expect \"a\\\"\\\\\\n~\"",
-            b"pin 0 0 0\npin 0 31 1\npin 4294967295 1 0\nuart1 expect \"a\\x22\\x5c\\x0a~\"\n",
-        ),
-        (
-            b"uart0 expect \"0123456789abcdef0123456789abcdef0123456789abcdef0123456789abcdef\"\n",
-            b"uart0 expect \"0123456789abcdef0123456789abcdef0123456789abcdef0123456789abcdef\"\n",
+            b"pin 0 31 01\nuart0 send \"A\\r\"\nuart1 expect \"a\\\"\\\\\\n~\"",
+            b"pin 0 31 1\nuart0 hex 410d\nuart1 expect \"a\\x22\\x5c\\x0a~\"\n",
         ),
     ] {
         assert!(&rt; is_printed(rt.alloc(), text, printed));
@@ -126,30 +90,14 @@ fn refuses_chip_files(rt: HostRuntime) {
             Fault::Range,
             b"delay.uart0".as_slice(),
         ),
-        (b"imem = 5000\n", Fault::Range, b"imem"),
-        (b"imem = 0", Fault::Range, b"imem"),
-        (b"imem = 1052672", Fault::Range, b"imem"),
-        (b"imm = 1\n", Fault::Key, b"imm"),
-        (b"flash = 1\n", Fault::Key, b"flash"),
-        (b"clock = 0\n", Fault::Range, b"clock"),
-        (b"clock = 4294967296\n", Fault::Range, b"clock"),
-        (b"clock = \"1\"", Fault::Key, b"clock"),
-        (b"baud = 1.0", Fault::Key, b"baud"),
-        (b"prescaler = -1\n", Fault::Range, b"prescaler"),
-        (b"prescaler = 8", Fault::Range, b"prescaler"),
-        (b"delay = 3\n", Fault::Key, b"delay"),
-        (b"[[delay]]", Fault::Key, b"delay"),
         (b"[delay]\nhub = 3\n", Fault::Key, b"delay.hub"),
-        (b"[delay]\npwm = true", Fault::Key, b"delay.pwm"),
-        (b"[delay]\nspi = 0", Fault::Range, b"delay.spi"),
-        (b"dmem = 1\n[delay]\nwdt = 0\n", Fault::Range, b"delay.wdt"),
         (
             b"imem = 5000\nflash = 1\nbaud = 1024\n",
             Fault::Range,
             b"baud",
         ),
+        (b"clock = \"1\"", Fault::Key, b"clock"),
         (b"baud = 1\nbaud = 2\n", Fault::Toml, b""),
-        (b"baud\n", Fault::Toml, b""),
         (b"# \xff\n", Fault::Toml, b""),
     ] {
         assert!(&rt; is_faulty(rt.alloc(), text, fault, key));
