@@ -1,5 +1,5 @@
 //! The chip's units, and the parts of its hub that have registers.
-ghost use Rattle.std.specs.Prelude.{◌≡◌, ◌≤◌, ◌<◌, IfSome};
+ghost use Rattle.std.specs.Prelude.{◌≡◌, ◌≤◌, ◌<◌, IfSome, length};
 ghost use Rattle.chip_base.specs.UnitTable.{fast_bit, lane_name, lane_named, link_place, part_row, standard_delays, unit_named, unit_numbered, unit_row};
 
 use crate::bits::bit_if;
@@ -55,9 +55,10 @@ impl ChipUnit {
         usize::from(self.number()) - 1
     }
 
-    /// The unit's name.
+    /// The unit's name, of at most 5 bytes.
     pub const fn name(self) -> &'static str
-        ensures { result.now ≡ (unit_row self).name }
+        ensures value { result.now ≡ (unit_row self).name }
+        ensures short { length result.now ≤ 5 }
     {
         match self {
             ChipUnit::Uart0 => "uart0",
@@ -150,9 +151,11 @@ pub(crate) const fn standard_delays() -> [u32; 7]
     [32, 32, 8, 8, 32, 8, 64]
 }
 
-/// The name of a lane: `hub` for lane 0, and for each unit's number the unit's name. A number above 7 gives `hub`.
+/// The name of a lane: `hub` for lane 0, and for each unit's number the unit's name. A number above 7 gives
+/// `hub`. It has at most 5 bytes.
 pub fn lane_name(number: u8) -> &'static str
-    ensures { result.now ≡ lane_name number }
+    ensures value { result.now ≡ lane_name number }
+    ensures short { length result.now ≤ 5 }
 {
     match ChipUnit::numbered(number) {
         Some(unit) => unit.name(),

@@ -3,7 +3,7 @@ ghost use Rattle.std.specs.Prelude.{◌≡◌, ℕ, ◌<◌, ◌≤◌, ◌+◌,
 ghost use Rattle.std.specs.Int.{w32, to_le_bytes};
 ghost use Rattle.chip_base.specs.Settings.{values_of};
 ghost use Rattle.chip_base.specs.declared.boot.Boot.TheVariants.{Raw};
-ghost use Rattle.chip_hub.specs.Cycle.{boot_view, csr_at, hart_view, word_at};
+ghost use Rattle.chip_hub.specs.Views.{boot_view, csr_at, hart_view, word_at};
 ghost use Rattle.soc_bus.specs.Memory.{IsSize, held_by, place_of};
 ghost use Rattle.chip_whole.specs.Chip.{Board, State, after, events_of, start, tick};
 ghost use Rattle.chip_whole.specs.Standing.{ChipStands};

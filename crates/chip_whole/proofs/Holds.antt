@@ -11,7 +11,7 @@ use Rattle.chip_base.specs.declared.script.Script.{Script}
 use Rattle.chip_base.specs.declared.setup.Setup.{Setup}
 use Rattle.board_units.specs.GpioCycle.{gpio_cycle}
 use Rattle.board_units.specs.PwmCycle.{pwm_cycle}
-use Rattle.chip_hub.specs.Cycle.{start as hub_start}
+use Rattle.chip_hub.specs.Start.{start as hub_start}
 use Rattle.chip_hub.proofs.Fronts.{gpio_hears, pwm_hears, serves_gpio, serves_pwm, serves_uart0, serves_uart1}
 use Rattle.soc_words.specs.Line.{first_of}
 use Rattle.uart_lane.specs.Counts.{bytes_out}

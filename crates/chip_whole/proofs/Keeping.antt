@@ -5,7 +5,8 @@ use Rattle.chip_base.specs.declared.script.Script.{Script}
 use Rattle.chip_base.specs.declared.event.Event.{Event}
 use Rattle.chip_base.specs.declared.message.Down.{Down}
 use Rattle.chip_base.specs.declared.message.Up.{Up}
-use Rattle.chip_hub.specs.Cycle.{hub_cycle, start as hub_start}
+use Rattle.chip_hub.specs.Cycle.{hub_cycle}
+use Rattle.chip_hub.specs.Start.{start as hub_start}
 use Rattle.chip_hub.specs.State.{State as Hub}
 use Rattle.chip_whole.specs.Chip.{Board, State, Units, arriving, events_of, start, tick, told_by_units, units_after, units_start}
 use Rattle.chip_whole.specs.Standing.{ChipStands, Kept}

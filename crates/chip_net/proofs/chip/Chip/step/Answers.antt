@@ -4,7 +4,7 @@ use Rattle.chip_net.proofs.chip.Chip.step.Goals as goal
 
 pub returns-clause-state : goal.returns-clause-state
 returns-clause-state c board s h =
-    step_stands board _ s _ _ _ _ _ _ c.arriving-ups.ensures c.now.ensures (ap (λ h. h.hub) c.cycle-downs.ensures) (ap (λ h. h.downs) c.cycle-downs.ensures) (c.cycle.ensures.units board)
+    step_stands board _ s _ _ _ _ _ _ c.arriving-ups.ensures c.now.ensures (ap (λ h. h.hub) c.cycle-downs.ensures.step) (ap (λ h. h.downs) c.cycle-downs.ensures.step) (c.cycle.ensures.units board)
     c.cycle.ensures.cycle h
 
 pub returns-clause-told : goal.returns-clause-told
