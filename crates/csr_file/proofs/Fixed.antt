@@ -1,6 +1,11 @@
 -- The fixed bits of CSRs: a write of the word that a CSR holds would keep it.
-use Rattle.std.proofs.Common.{◌≡◌, ℕ, ◌+◌, ◌%◌, ◌/◌, ◌*◌, ◌^◌, ◌<◌, ◌≤◌, ap, arith, sym, ◌∙◌, bit_and, lit≤}
+use Rattle.std.proofs.Common.{◌≡◌, ℕ, ◌+◌, ◌%◌, ◌/◌, ◌*◌, ◌^◌, ◌<◌, ◌≤◌, ap, arith, sym, ◌∙◌, bit_and, bit_or, lit≤, Bool, true, false, refl, if◌then◌else◌}
 use Rattle.std.specs.Int.Bits.{and_self}
+use Rattle.std.proofs.lemmas.Nat.Bits.{bit_at_or, bit_at_and, same_from_bits}
+use Rattle.csr_file.specs.Table.{IsKeptBy}
+use Rattle.csr_file.specs.Traps.{status}
+use Rattle.csr_file.specs.declared.names.Csr.TheVariants.{Mstatus}
+use Rattle.std.specs.Int.{bit_at}
 use Rattle.std.proofs.lemmas.Nat.{and_assoc, and_mod, and_le_r}
 use Rattle.std.proofs.lemmas.Nat.Bits.{and_high_mask}
 
@@ -8,19 +13,19 @@ use Rattle.std.proofs.lemmas.Nat.Bits.{and_high_mask}
 pub masked_twice : (value mask : ℕ) → bit_and (bit_and value mask) mask ≡ bit_and value mask
 masked_twice value mask = and_assoc mask value mask ∙ ap (λ m. bit_and value m) (and_self mask)
 
-below_byte : (x : ℕ) → x ≤ 0x88 → (x + 0x1800) % 2 ^ 8 ≡ x
-below_byte x small = grind arith
+both_kept : (v m o i : ℕ) → bit_at (bit_or (bit_and (bit_or (bit_and v m) o) m) o) i ≡ bit_at (bit_or (bit_and v m) o) i
+both_kept v m o i = grind (arith, bit_at_or, bit_at_and)
 
-same_byte : (y : ℕ) → y ≤ 0x88 → y % 2 ^ 8 ≡ y
-same_byte y small = grind arith
+-- bits kept beside fixed ones, twice, are the same once
+pub beside_twice : (value mask ones : ℕ) → bit_or (bit_and (bit_or (bit_and value mask) ones) mask) ones ≡ bit_or (bit_and value mask) ones
+beside_twice value mask ones = same_from_bits _ _ (both_kept value mask ones)
 
-pub written_status_fixed : (value : ℕ) → bit_and (bit_and value 0x88 + 0x1800) 0x88 + 0x1800 ≡ bit_and value 0x88 + 0x1800
-written_status_fixed value =
-    let x = bit_and value 0x88 in
-    let small : x ≤ 0x88 = and_le_r value 0x88 in
-    let low : bit_and (x + 0x1800) 0x88 ≡ bit_and ((x + 0x1800) % 2 ^ 8) 0x88 =
-    sym (same_byte (bit_and (x + 0x1800) 0x88) (and_le_r (x + 0x1800) 0x88)) ∙ and_mod (x + 0x1800) 0x88 8 in
-    ap (λ w. w + 0x1800) (low ∙ ap (λ w. bit_and w 0x88) (below_byte x small) ∙ masked_twice value 0x88)
+-- what a trap and a return make of mstatus
+pub status_fixed : (mie mpie : Bool) → IsKeptBy Mstatus (status (if mie then 1 else 0) (if mpie then 1 else 0))
+status_fixed true true = refl
+status_fixed true false = refl
+status_fixed false true = refl
+status_fixed false false = refl
 
 halved : (n : ℕ) → n % 2 ≡ 0 → n / 2 ^ 1 * 2 ^ 1 ≡ n
 halved n even = grind arith

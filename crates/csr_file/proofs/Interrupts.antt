@@ -6,6 +6,7 @@ use Rattle.std.specs.Int.{bit_at}
 use Rattle.std.specs.List.{find, list_any}
 use Rattle.std.proofs.lemmas.Nat.Bits.{bit_at_and, bit_at-lt, bit_at-zero, bit_at_above, same_from_bits}
 use Rattle.csr_file.specs.Traps.{order, first_cause, pending_in, enabled}
+use Rattle.csr_file.specs.Causes.{interrupt_cause}
 use Rattle.csr_file.specs.State.{State}
 use Rattle.std.specs.Option.{option_map}
 use Rattle.std.proofs.lemmas.Nat.{and_assoc}
@@ -58,7 +59,7 @@ pub none_ready : (ready : ℕ) → find (λ n. bit_at ready n == 1) order ≡ No
 none_ready ready none inside = same_from_bits ready 0 (λ i. any_bit ready i none inside (cases_lt i 32) ∙ sym (bit_at-zero i))
 
 -- the interrupt that is taken
-map_none : (o : Option ℕ) → option_map (λ number. 2 ^ 31 + number) o ≡ None → o ≡ None
+map_none : (o : Option ℕ) → option_map interrupt_cause o ≡ None → o ≡ None
 map_none None h = refl
 map_none (Some n) h = grind arith
 
@@ -76,7 +77,7 @@ none_by false ready inside h = inl refl
 by_none : (on : Bool) (ready : ℕ) → (on ≡ false) ⊎ (ready ≡ 0) → (if on then first_cause ready else None) ≡ None
 by_none false ready h = refl
 by_none true ready (inl h) = grind arith
-by_none true ready (inr h) = rw h (ap (λ o. option_map (λ number. 2 ^ 31 + number) o) (none_set 0 order))
+by_none true ready (inr h) = rw h (ap (λ o. option_map interrupt_cause o) (none_set 0 order))
 
 pub pending_none : (s : State) (mip : ℕ) → bit_and s.mie 0xffff0888 ≡ s.mie → (pending_in s mip ≡ None) ↔ ((enabled s ≡ false) ⊎ (bit_and mip s.mie ≡ 0))
 unfolding pending_in

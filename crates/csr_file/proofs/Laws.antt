@@ -5,7 +5,7 @@ use Rattle.std.specs.List.{find}
 use Rattle.std.specs.Option.{option_map}
 use mathlib.Core.Bool.{not}
 use Rattle.csr_file.specs.State.{State}
-use Rattle.csr_file.specs.Table.{row_of, word_of, with_word, kept, csr_at, takes, every, fresh, reset_word, read_at, written, written_in, writable, takes_in}
+use Rattle.csr_file.specs.Table.{row_of, word_of, with_word, kept, csr_at, takes, every, fresh, at_reset, read_at, written, written_in, writable, takes_in}
 use Rattle.csr_file.specs.Traps.{after_tick, after_retire}
 use Rattle.csr_file.specs.declared.names.Csr.{Csr}
 
@@ -78,11 +78,11 @@ unfolding writable
 refused_by n = (refusal_in n (csr_at n) refl, in_refusal n (csr_at n) refl)
 
 -- the values at reset
-reset_in : (hart mip : ℕ) (o : Option Csr) → option_map (word_of (fresh hart) mip) o ≡ option_map (λ c. reset_word hart mip (row_of c).reset) o
+reset_in : (hart mip : ℕ) (o : Option Csr) → option_map (word_of (fresh hart) mip) o ≡ option_map (at_reset hart mip) o
 reset_in hart mip None = refl
 reset_in hart mip (Some c) = grind arith
 
-pub reset_reads : (hart n mip : ℕ) → read_at (fresh hart) n mip ≡ option_map (λ c. reset_word hart mip (row_of c).reset) (csr_at n)
+pub reset_reads : (hart n mip : ℕ) → read_at (fresh hart) n mip ≡ option_map (at_reset hart mip) (csr_at n)
 unfolding read_at
 reset_reads hart n mip = reset_in hart mip (csr_at n)
 
@@ -99,6 +99,10 @@ pub trap_others : (s : State) (pc cause value status n mip : ℕ) → n ≢ 0x30
 unfolding read_at
 trap_others s pc cause value status n mip status_apart pc_apart cause_apart value_apart =
     same_in s (record s { mepc = pc; mcause = cause; mtval = value; mstatus = status }) mip n (csr_at n) refl (trap_word s pc cause value status mip n status_apart pc_apart cause_apart value_apart)
+
+pub status_read : (s : State) (mip : ℕ) → read_at s 0x300 mip ≡ Some s.mstatus
+unfolding read_at csr_at
+status_read s mip = refl
 
 pub trap_set : (s : State) (mip : ℕ) → (read_at s 0x341 mip ≡ Some s.mepc) × (read_at s 0x342 mip ≡ Some s.mcause) × (read_at s 0x343 mip ≡ Some s.mtval)
 unfolding read_at csr_at

@@ -3,9 +3,11 @@ ghost use Rattle.std.specs.Prelude.{◌≡◌, ◌==◌, ℕ, ◌+◌, ◌*◌, 
 ghost use Rattle.std.specs.Option.{option_map};
 ghost use Rattle.std.specs.List.{find, list_all};
 ghost use Rattle.std.specs.Int.{bit_at};
-ghost use Rattle.csr_file.specs.Table.{fresh, read_at, written, writable, word_of, with_word, row_of, kept, takes, csr_at, reset_word};
+ghost use Rattle.csr_file.specs.Table.{IsKeptBy, at_reset, fresh, read_at, written, writable, word_of, with_word, row_of, kept, takes, csr_at};
+ghost use Rattle.csr_file.specs.declared.names.Csr.TheVariants.{Mstatus};
 ghost use Rattle.csr_file.specs.Traps.{enabled, status, first_cause, trapped, target, returned, pending_in, wakes_in, after_tick, after_retire};
 
+use crate::causes::INTERRUPT;
 use crate::names::Csr;
 use chip_base::bits::{high_word, low_word, with_high, with_low};
 use std::marker::Model;
@@ -18,7 +20,7 @@ const ORDER: [u32; 19] = [
 /// The control and status registers of one hart.
 #[derive(Drop)]
 pub struct Csrs {
-    hart: u32,
+    hart: u8,
     mstatus: u32,
     mie: u32,
     mtvec: u32,
@@ -31,22 +33,39 @@ pub struct Csrs {
 }
 
 impl Model for Csrs {
-    ghost use Rattle.std.specs.Prelude.{◌≡◌, ◌+◌, bit_and};
+    ghost use Rattle.std.specs.Prelude.{◌≡◌, ◌<◌};
     ghost use Rattle.csr_file.specs.State.{State};
+    ghost use Rattle.csr_file.specs.Table.{IsKeptBy};
+    ghost use Rattle.csr_file.specs.declared.names.Csr.TheVariants.{Mstatus, Mie, Mtvec, Mepc};
 
     ghost Value = { State };
 
     ghost view = { λ s. record { hart = s.hart; mstatus = s.mstatus; mie = s.mie; mtvec = s.mtvec; mscratch = s.mscratch; mepc = s.mepc; mcause = s.mcause; mtval = s.mtval; mcycle = s.mcycle; minstret = s.minstret } };
 
-    ghost invariant = { λ s. (bit_and s.mstatus 0x88 + 0x1800 ≡ s.mstatus) × (bit_and s.mie 0xffff0888 ≡ s.mie) × (bit_and s.mtvec 0xfffffffd ≡ s.mtvec) × (bit_and s.mepc 0xfffffffe ≡ s.mepc) };
+    ghost invariant = { λ s. IsKeptBy Mstatus s.mstatus × IsKeptBy Mie s.mie × IsKeptBy Mtvec s.mtvec × IsKeptBy Mepc s.mepc × (s.hart < 2) };
 }
 
-/// The status word with MIE and MPIE.
+/// What a CSR that is neither mhartid nor mip holds at reset.
+fn at_reset(csr: Csr) -> u32
+    ensures { result ≡ at_reset 0 0 csr }
+{
+    csr.row().reset.word(0, 0)
+}
+
+/// What a counter has at reset, by the names of its low and its high word.
+fn counter_at_reset(low: Csr, high: Csr) -> u64
+    ensures { result ≡ at_reset 0 0 high * 2 ^ 32 + at_reset 0 0 low }
+{
+    with_high(u64::from(at_reset(low)), at_reset(high))
+}
+
+/// mstatus with MIE and MPIE.
+#[tactic(auto, using(crate::proofs::Fixed::status_fixed))]
 fn status_word(mie: bool, mpie: bool) -> u32
     ensures value { result ≡ status (if mie then 1 else 0) (if mpie then 1 else 0) }
-    ensures fixed { bit_and result 0x88 + 0x1800 ≡ result }
+    ensures fixed { IsKeptBy Mstatus result }
 {
-    0x1800 + u32::from(mie) * 8 + u32::from(mpie) * 128
+    at_reset(Csr::Mstatus) + u32::from(mie) * 8 + u32::from(mpie) * 128
 }
 
 /// Whether a bit of a word is 1.
@@ -78,52 +97,64 @@ fn taken(enabled: bool, ready: u32) -> Option<u32>
         return None;
     }
     let number = first_set(ready, &ORDER)?;
-    Some(0x8000_0000 + number)
+    Some(INTERRUPT + number)
 }
 
 impl Csrs {
+    fn reset(hart: u32) -> Csrs
+        requires { hart < 2 }
+        ensures { result ≡ fresh hart }
+    {
+        Csrs {
+            hart: hart as u8,
+            mstatus: at_reset(Csr::Mstatus),
+            mie: at_reset(Csr::Mie),
+            mtvec: at_reset(Csr::Mtvec),
+            mscratch: at_reset(Csr::Mscratch),
+            mepc: at_reset(Csr::Mepc),
+            mcause: at_reset(Csr::Mcause),
+            mtval: at_reset(Csr::Mtval),
+            mcycle: counter_at_reset(Csr::Mcycle, Csr::Mcycleh),
+            minstret: counter_at_reset(Csr::Minstret, Csr::Minstreth),
+        }
+    }
+
     /// The CSRs of a hart at reset.
     pub fn new(hart: u32) -> Csrs
         requires { hart < 2 }
         ensures state { result ≡ fresh hart }
-        ensures table { (n mip : ℕ) → read_at result n mip ≡ option_map (λ c. reset_word hart mip (row_of c).reset) (csr_at n) }
+        ensures table { (n mip : ℕ) → read_at result n mip ≡ option_map (at_reset hart mip) (csr_at n) }
     {
-        Csrs {
-            hart,
-            mstatus: 0x1800,
-            mie: 0,
-            mtvec: 0,
-            mscratch: 0,
-            mepc: 0,
-            mcause: 0,
-            mtval: 0,
-            mcycle: 0,
-            minstret: 0,
-        }
+        Csrs::reset(hart)
+    }
+
+    /// The number of the hart, 0 or 1.
+    pub fn hart(&self) -> u8
+        ensures { result ≡ self.now.hart }
+    {
+        self.hart
     }
 
     fn word(&self, csr: Csr, mip: u32) -> u32
         ensures value { result ≡ word_of self.now mip csr }
-        ensures fixed { kept (row_of csr).rule result result ≡ result }
+        ensures fixed { IsKeptBy csr result }
     {
         match csr {
             Csr::Mstatus => self.mstatus,
-            Csr::Misa => 0x4000_1104,
             Csr::Mie => self.mie,
             Csr::Mtvec => self.mtvec,
             Csr::Mscratch => self.mscratch,
             Csr::Mepc => self.mepc,
             Csr::Mcause => self.mcause,
             Csr::Mtval => self.mtval,
-            Csr::Mip => mip,
             Csr::Mcycle => low_word(self.mcycle),
             Csr::Mcycleh => high_word(self.mcycle),
             Csr::Minstret => low_word(self.minstret),
             Csr::Minstreth => high_word(self.minstret),
-            Csr::Marchid => 0x13,
-            Csr::Mimpid => 0x1_0000,
-            Csr::Mhartid => self.hart,
-            Csr::Mstatush | Csr::Mvendorid | Csr::Mconfigptr => 0,
+            Csr::Misa | Csr::Mstatush | Csr::Mip => csr.row().reset.word(self.hart, mip),
+            Csr::Mvendorid | Csr::Marchid | Csr::Mimpid | Csr::Mhartid | Csr::Mconfigptr => {
+                csr.row().reset.word(self.hart, mip)
+            }
         }
     }
 
@@ -139,28 +170,37 @@ impl Csrs {
         Some(self.word(csr, mip))
     }
 
+    /// Sets the word of a CSR; one that never changes stays.
+    fn set(&mut self, csr: Csr, word: u32)
+        requires { IsKeptBy csr word }
+        ensures { self.new ≡ with_word self.old csr word }
+    {
+        match csr {
+            Csr::Mstatus => self.mstatus = word,
+            Csr::Mie => self.mie = word,
+            Csr::Mtvec => self.mtvec = word,
+            Csr::Mscratch => self.mscratch = word,
+            Csr::Mepc => self.mepc = word,
+            Csr::Mcause => self.mcause = word,
+            Csr::Mtval => self.mtval = word,
+            Csr::Mcycle => self.mcycle = with_low(self.mcycle, word),
+            Csr::Mcycleh => self.mcycle = with_high(self.mcycle, word),
+            Csr::Minstret => self.minstret = with_low(self.minstret, word),
+            Csr::Minstreth => self.minstret = with_high(self.minstret, word),
+            Csr::Misa | Csr::Mstatush | Csr::Mip => {}
+            Csr::Mvendorid | Csr::Marchid | Csr::Mimpid | Csr::Mhartid | Csr::Mconfigptr => {}
+        }
+    }
+
+    /// Writes a CSR by its rule.
     fn put(&mut self, csr: Csr, value: u32) -> bool
         ensures state { self.new ≡ with_word self.old csr (kept (row_of csr).rule (word_of self.old 0 csr) value) }
         ensures done { result ≡ takes (row_of csr).rule }
     {
-        match csr {
-            Csr::Mstatus => self.mstatus = (value & 0x88) + 0x1800,
-            Csr::Mie => self.mie = value & 0xffff_0888,
-            Csr::Mtvec => self.mtvec = value & 0xffff_fffd,
-            Csr::Mscratch => self.mscratch = value,
-            Csr::Mepc => self.mepc = value & 0xffff_fffe,
-            Csr::Mcause => self.mcause = value,
-            Csr::Mtval => self.mtval = value,
-            Csr::Mcycle => self.mcycle = with_low(self.mcycle, value),
-            Csr::Mcycleh => self.mcycle = with_high(self.mcycle, value),
-            Csr::Minstret => self.minstret = with_low(self.minstret, value),
-            Csr::Minstreth => self.minstret = with_high(self.minstret, value),
-            Csr::Misa | Csr::Mstatush | Csr::Mip => {}
-            Csr::Mvendorid | Csr::Marchid | Csr::Mimpid | Csr::Mhartid | Csr::Mconfigptr => {
-                return false;
-            }
-        }
-        true
+        let rule = csr.row().rule;
+        let word = rule.kept(self.word(csr, 0), value);
+        self.set(csr, word);
+        rule.takes()
     }
 
     #[tactic(auto, unfolding(crate::specs::Table::written, crate::specs::Table::writable))]
@@ -191,12 +231,13 @@ impl Csrs {
     /// Enters a trap: mepc becomes `pc`, mcause `cause` and mtval `value`, MPIE takes what MIE was, and MIE becomes 0. Gives the
     /// address of the handler: mtvec's base, its bits 1 and 0 cleared; for an interrupt, a cause from 2^31 upwards, it is
     /// base + 4 * cause modulo 2^32 where bit 0 of mtvec is 1.
-    #[tactic(auto, using(crate::proofs::Fixed::even_fixed), unfolding(crate::specs::Traps::trapped, crate::specs::Traps::target))]
+    #[tactic(auto, using(crate::proofs::Fixed::even_fixed, crate::proofs::Laws::status_read), unfolding(crate::specs::Traps::trapped, crate::specs::Traps::target))]
     pub fn trap(&mut self, pc: u32, cause: u32, value: u32) -> u32
         requires { pc % 2 ≡ 0 }
         ensures state { self.new ≡ trapped self.old pc cause value }
         ensures goes { result ≡ target self.old.mtvec cause }
         ensures even { result % 2 ≡ 0 }
+        ensures status { (mip : ℕ) → read_at self.new 0x300 mip ≡ Some (status 0 (bit_at self.old.mstatus 3)) }
         ensures set { (mip : ℕ) → (read_at self.new 0x341 mip ≡ Some pc) × (read_at self.new 0x342 mip ≡ Some cause) × (read_at self.new 0x343 mip ≡ Some value) }
         ensures others { (other mip : ℕ) → other ≢ 0x300 → other ≢ 0x341 → other ≢ 0x342 → other ≢ 0x343 → read_at self.new other mip ≡ read_at self.old other mip }
     {
@@ -205,7 +246,7 @@ impl Csrs {
         self.mtval = value;
         self.mstatus = status_word(false, has_bit(self.mstatus, 3));
         let base = self.mtvec / 4 * 4;
-        if cause >= 0x8000_0000 && self.mtvec % 2 == 1 {
+        if cause >= INTERRUPT && self.mtvec % 2 == 1 {
             base.wrapping_add(cause.wrapping_mul(4))
         } else {
             base
@@ -213,10 +254,11 @@ impl Csrs {
     }
 
     /// Returns from a trap: MIE takes what MPIE was, and MPIE becomes 1. Gives mepc, the address to go on from.
-    #[tactic(auto, using(crate::proofs::Fixed::fixed_even), unfolding(crate::specs::Traps::returned))]
+    #[tactic(auto, using(crate::proofs::Fixed::fixed_even, crate::proofs::Laws::status_read), unfolding(crate::specs::Traps::returned))]
     pub fn mret(&mut self) -> u32
         ensures state { self.new ≡ returned self.old }
         ensures goes { result ≡ self.old.mepc }
+        ensures status { (mip : ℕ) → read_at self.new 0x300 mip ≡ Some (status (bit_at self.old.mstatus 7) 1) }
         ensures even { result % 2 ≡ 0 }
         ensures others { (other mip : ℕ) → other ≢ 0x300 → read_at self.new other mip ≡ read_at self.old other mip }
     {

@@ -4,9 +4,11 @@
 //! ISA". No call takes memory.
 #![tactic(auto)]
 
+pub mod causes;
 pub mod file;
 pub mod names;
 
+pub use causes::Exception;
 pub use file::Csrs;
 pub use names::Csr;
 
