@@ -12,7 +12,7 @@ use Rattle.core_pair.specs.Turn.{Turned, acted, acted_by, idle, issued_by, ticke
 
 -- a record, if there is one, is of this cycle and of the core as it was
 Fits : CoreState → ℕ → Turned → Type 0
-Fits c now t = IfSome t.issued (λ r. (r.cycle ≡ now) × (r.hart ≡ c.hart) × (r.pc ≡ c.pc))
+Fits c now t = IfSome t.issued (λ r. (r.cycle ≡ now) × (r.hart ≡ c.csrs.hart) × (r.pc ≡ c.pc))
 
 by_fetch : (c : CoreState) (now mip : ℕ) (f : Fetched) → Fits c now (issued_by c now mip f)
 unfolding Fits
@@ -50,6 +50,6 @@ by_phase c now mip m (Sleep left) =
 by_phase c now mip m Parked = idle_fits (ticked c) now c
 by_phase c now mip m Monitor = idle_fits (ticked c) now c
 
-pub recorded : (c : CoreState) (now mip : ℕ) (m : Memories) → IfSome (turned c now mip m).issued (λ r. (r.cycle ≡ now) × (r.hart ≡ c.hart) × (r.pc ≡ c.pc))
+pub recorded : (c : CoreState) (now mip : ℕ) (m : Memories) → IfSome (turned c now mip m).issued (λ r. (r.cycle ≡ now) × (r.hart ≡ c.csrs.hart) × (r.pc ≡ c.pc))
 unfolding turned Fits
 recorded c now mip m = by_phase c now mip m c.phase

@@ -1,7 +1,8 @@
 -- A turn after which the core wants an access leaves pc, the registers and minstret.
 use Rattle.std.proofs.Common.{◌≡◌, ◌==◌, ℕ, ◌-◌, Bool, true, false, Option, Some, None, IfSome, refl, if◌then◌else◌}
 use Rattle.std.specs.Option.{option_and_then}
-use Rattle.csr_file.specs.Table.{read_at, writable}
+use Rattle.csr_file.specs.Causes.{cause_of}
+use Rattle.csr_file.specs.declared.causes.Exception.TheVariants.{InstructionAccessFault}
 use Rattle.csr_file.specs.Traps.{pending_in, wakes_in}
 use Rattle.soc_bus.specs.Memory.{Memories}
 use Rattle.soc_bus.specs.declared.access.Request.{Request}
@@ -9,13 +10,14 @@ use Rattle.rv_decode.specs.Rows.{decoded}
 use Rattle.rv_decode.specs.Parcels.{expanded}
 use Rattle.rv_decode.specs.declared.instr.Instr.{Instr}
 use Rattle.rv_decode.specs.declared.instr.Op.{Op}
-use Rattle.rv_decode.specs.declared.instr.Op.TheVariants.{Lb, Lh, Lw, Lbu, Lhu, Sb, Sh, Sw, Csrrw, Csrrs, Csrrc, Csrrwi, Csrrsi, Csrrci}
+use Rattle.rv_decode.specs.declared.instr.Op.TheVariants.{Lb, Lh, Lw, Lbu, Lhu, Sb, Sh, Sw}
 use Rattle.core_pair.specs.declared.fetch.Fetched.{Fetched}
 use Rattle.core_pair.specs.declared.fetch.Fetched.TheVariants.{Absent, Parcel, Word}
 use Rattle.core_pair.specs.declared.phase.Phase.{Phase}
 use Rattle.core_pair.specs.declared.phase.Phase.TheVariants.{Run, Want, Sleep, Parked, Monitor}
-use Rattle.core_pair.specs.Core.{CoreState, entered, finished, retired, wanted_in}
-use Rattle.core_pair.specs.Execute.{by_row, csr_done, csr_writes, csr_written, cycles, executed}
+use Rattle.core_pair.specs.Core.{CoreState, busy_after, hart_of, wanted_in}
+use Rattle.core_pair.specs.Execute.{by_row, executed, illegal}
+use Rattle.core_pair.specs.Hart.{Outcome, traps}
 use Rattle.core_pair.specs.Fetch.{fetched_at}
 use Rattle.core_pair.specs.Turn.{acted, acted_by, idle, issued_by, ticked, turned, turned_in}
 
@@ -35,32 +37,13 @@ same_waits : (c d : CoreState) → Same c d → Waits c d
 unfolding Waits Same
 same_waits c d h = always c d (wanted_in d.phase) h
 
-retired_waits : (c d : CoreState) (rd value next cost : ℕ) → Waits c (retired d rd value next cost)
-unfolding Waits retired finished
-retired_waits c d rd value next cost = tt
-
-finished_waits : (c d : CoreState) (rd value next cost : ℕ) → Waits c (finished d rd value next cost)
-unfolding Waits finished
-finished_waits c d rd value next cost = tt
-
-entered_waits : (c d : CoreState) (cause value : ℕ) → Waits c (entered d cause value)
-unfolding Waits entered
-entered_waits c d cause value = tt
-
-if_waits : (c : CoreState) (b : Bool) (d e : CoreState) → Waits c d → Waits c e → Waits c (if b then d else e)
-if_waits c true d e h k = h
-if_waits c false d e h k = k
+busy_waits : (c d : CoreState) (o : Outcome) → Waits c (busy_after d o)
+unfolding Waits
+busy_waits c d o = tt
 
 -- the rows
-by_csr : (c : CoreState) (i : Instr) (word next : ℕ) (o : Option ℕ) → Waits c (csr_done c i word next o)
-by_csr c i word next None = entered_waits c c 2 word
-by_csr c i word next (Some old) =
-    if_waits c (csr_writes i i.op) (csr_written c i word next old) (retired c i.rd old next (cycles i))
-    (if_waits c (writable i.csr) _ (entered c 2 word) (finished_waits c _ i.rd old next (cycles i)) (entered_waits c c 2 word))
-    (retired_waits c c i.rd old next (cycles i))
-
 by_op : (c : CoreState) (i : Instr) (word next mip : ℕ) (op : Op) → Waits c (by_row c i word next mip op)
-unfolding Waits retired finished entered
+unfolding Waits
 by_op c i word next mip Lb = (refl, refl, refl)
 by_op c i word next mip Lh = (refl, refl, refl)
 by_op c i word next mip Lw = (refl, refl, refl)
@@ -69,27 +52,21 @@ by_op c i word next mip Lhu = (refl, refl, refl)
 by_op c i word next mip Sb = (refl, refl, refl)
 by_op c i word next mip Sh = (refl, refl, refl)
 by_op c i word next mip Sw = (refl, refl, refl)
-by_op c i word next mip Csrrw = by_csr c i word next (read_at c.csrs i.csr mip)
-by_op c i word next mip Csrrs = by_csr c i word next (read_at c.csrs i.csr mip)
-by_op c i word next mip Csrrc = by_csr c i word next (read_at c.csrs i.csr mip)
-by_op c i word next mip Csrrwi = by_csr c i word next (read_at c.csrs i.csr mip)
-by_op c i word next mip Csrrsi = by_csr c i word next (read_at c.csrs i.csr mip)
-by_op c i word next mip Csrrci = by_csr c i word next (read_at c.csrs i.csr mip)
 by_op c i word next mip _ = tt
 
 by_instr : (c : CoreState) (o : Option Instr) (word length mip : ℕ) → Waits c (executed c o word length mip)
 unfolding executed
-by_instr c None word length mip = entered_waits c c 2 word
+by_instr c None word length mip = busy_waits c c (illegal (hart_of c) word)
 by_instr c (Some i) word length mip = by_op c i word _ mip i.op
 
 -- the turn
 by_fetch : (c : CoreState) (now mip : ℕ) (f : Fetched) → Waits c (issued_by c now mip f).after
-by_fetch c now mip (Absent address) = entered_waits c c 1 address
+by_fetch c now mip (Absent address) = busy_waits c c (traps (hart_of c) (cause_of InstructionAccessFault) address)
 by_fetch c now mip (Parcel parcel) = by_instr c (option_and_then decoded (expanded parcel)) parcel 2 mip
 by_fetch c now mip (Word word) = by_instr c (decoded word) word 4 mip
 
 by_cause : (c : CoreState) (now mip : ℕ) (m : Memories) (o : Option ℕ) → Waits c (acted_by c now mip m o).after
-by_cause c now mip m (Some cause) = entered_waits c c cause 0
+by_cause c now mip m (Some cause) = busy_waits c c (traps (hart_of c) cause 0)
 by_cause c now mip m None = by_fetch c now mip (fetched_at m c.pc)
 
 by_acting : (c : CoreState) (now mip : ℕ) (m : Memories) → Waits c (acted c now mip m).after

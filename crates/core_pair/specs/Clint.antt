@@ -1,4 +1,4 @@
--- The timer and the software interrupts.
+-- A definition: the timer and the software interrupts.
 use Rattle.std.specs.Prelude.{◌==◌, ℕ, ◌+◌, ◌-◌, ◌*◌, ◌%◌, ◌^◌, Bool, List, [], ◌∷◌, nat_le, if◌then◌else◌}
 use Rattle.chip_base.specs.Bits.{high_of, high_set, low_of, low_set}
 use Rattle.std.specs.List.{list_any}

@@ -1,28 +1,27 @@
--- The state of a core, and the steps that end an instruction.
-use Rattle.std.specs.Prelude.{◌==◌, ℕ, ◌-◌, ◌*◌, ◌/◌, false, List, slice_set, replicate, Option, Some, None, if◌then◌else◌}
+-- A definition: the state of a core, and how it begins.
+use Rattle.std.specs.Prelude.{◌==◌, ℕ, ◌-◌, ◌*◌, ◌/◌, false, List, replicate, Option, Some, None, if◌then◌else◌}
 use Rattle.csr_file.specs.State.{State}
 use Rattle.csr_file.specs.Table.{fresh}
-use Rattle.csr_file.specs.Traps.{trapped, target, after_retire}
 use Rattle.chip_base.specs.declared.hart.HartView.{HartView}
 use Rattle.chip_base.specs.declared.hart.PhaseWord.{PhaseWord}
 use Rattle.chip_base.specs.declared.hart.PhaseWord.TheVariants.{Ready, Run as Running, Want as Wanting, Sleep as Sleeping, Parked as IsParked, Monitor as IsMonitor}
 use Rattle.soc_bus.specs.declared.access.Request.{Request}
+use Rattle.core_pair.specs.Hart.{HartState, Outcome, with_register}
 use Rattle.core_pair.specs.declared.phase.Phase.{Phase}
 use Rattle.core_pair.specs.declared.phase.Phase.TheVariants.{Run, Want, Sleep, Parked, Monitor}
 use Rattle.core_pair.specs.declared.phase.Awaited.{Awaited}
 
--- the number of the hart, its registers, pc and CSRs, what it is doing, and what it keeps of a load or store until its grant
+-- a hart's registers, pc and CSRs, what the core is doing, and what it keeps of a load or store until its grant
 pub record CoreState : Type 0 where
-  pub hart : ℕ
   pub regs : List ℕ
   pub pc : ℕ
   pub csrs : State
   pub phase : Phase
   pub awaited : Awaited
 
--- the registers after a write; x0 keeps zero
-abbrev pub with_register : List ℕ → ℕ → ℕ → List ℕ
-with_register regs number value = if number == 0 then regs else slice_set regs number value
+-- the hart of a core
+abbrev pub hart_of : CoreState → HartState
+hart_of c = record { regs = c.regs; pc = c.pc; csrs = c.csrs }
 
 -- so many registers of zero
 unfoldable pub cleared : ℕ → List ℕ
@@ -35,7 +34,6 @@ first_phase hart = if hart == 0 then Run 0 else Parked
 -- a core at reset
 abbrev pub reset_core : ℕ → CoreState
 reset_core hart = record {
-  hart = hart;
   regs = cleared 32;
   pc = 0;
   csrs = fresh hart;
@@ -43,17 +41,9 @@ reset_core hart = record {
   awaited = record { rd = 0; signed = false; next = 0 };
 }
 
--- an instruction is done: its register has the value, pc is the next address, and the core is busy for the rest of the cost
-unfoldable pub finished : CoreState → ℕ → ℕ → ℕ → ℕ → CoreState
-finished c rd value next cost = record c { regs = with_register c.regs rd value; pc = next; phase = Run (cost - 1) }
-
--- the same, and it is counted as retired
-unfoldable pub retired : CoreState → ℕ → ℕ → ℕ → ℕ → CoreState
-retired c rd value next cost = finished (record c { csrs = after_retire c.csrs }) rd value next cost
-
--- the core enters a trap, which costs six cycles
-unfoldable pub entered : CoreState → ℕ → ℕ → CoreState
-entered c cause value = record c { pc = target c.csrs.mtvec cause; csrs = trapped c.csrs c.pc cause value; phase = Run 5 }
+-- the core after an instruction or a trap: it is busy for the rest of the cycles
+abbrev pub busy_after : CoreState → Outcome → CoreState
+busy_after c o = record c { regs = o.hart.regs; pc = o.hart.pc; csrs = o.hart.csrs; phase = Run (o.cycles - 1) }
 
 -- the core starts at an address, with a stack pointer in x2
 abbrev pub started : CoreState → ℕ → ℕ → CoreState

@@ -1,20 +1,27 @@
--- What an instruction does, by the rows of the instruction table.
-use Rattle.std.specs.Prelude.{◌==◌, ℕ, ◌-◌, ◌*◌, ◌/◌, ◌%◌, ◌||◌, Bool, true, false, Option, Some, None, slice_index, bit_and, bit_or, if◌then◌else◌}
+-- A definition: what an instruction does, by the rows of the instruction table.
+use Rattle.std.specs.Prelude.{◌==◌, ℕ, ◌-◌, ◌*◌, ◌/◌, ◌%◌, Bool, true, false, Option, Some, None, slice_index, bit_and, bit_or, if◌then◌else◌}
 use Rattle.std.specs.Int.{w32, bit_not}
 use mathlib.Core.Bool.{not}
 use Rattle.soc_words.specs.Word.{wrapped_sum}
 use Rattle.soc_bus.specs.declared.access.Width.TheVariants.{Byte, Half, Word}
 use Rattle.rv_decode.specs.declared.instr.Instr.{Instr}
 use Rattle.rv_decode.specs.declared.instr.Op.{Op}
-use Rattle.rv_decode.specs.declared.instr.Op.TheVariants.{Lui, Auipc, Jal, Jalr, Beq, Bne, Blt, Bge, Bltu, Bgeu, Lb, Lh, Lw, Lbu, Lhu, Sb, Sh, Sw, Fence, FenceI, Csrrw, Csrrs, Csrrc, Csrrwi, Csrrsi, Csrrci, Ecall, Ebreak, Mret, Wfi}
+use Rattle.rv_decode.specs.declared.instr.Op.TheVariants.{Addi, Slti, Sltiu, Xori, Ori, Andi, Slli, Srli, Srai, Add, Sll, Slt, Sltu, Xor, Srl, Or, And, Sub, Sra, Mul, Mulh, Mulhsu, Mulhu, Div, Divu, Rem, Remu, Lui, Auipc, Jal, Jalr, Beq, Bne, Blt, Bge, Bltu, Bgeu, Lb, Lh, Lw, Lbu, Lhu, Sb, Sh, Sw, Fence, FenceI, Csrrw, Csrrs, Csrrc, Csrrwi, Csrrsi, Csrrci, Ecall, Ebreak, Mret, Wfi}
 use Rattle.rv_exec.specs.Alu.{alu_of, is_alu_immediate, is_branch, taken_at}
 use Rattle.rv_exec.specs.Cost.{cost_of}
+use Rattle.csr_file.specs.Causes.{cause_of}
 use Rattle.csr_file.specs.State.{State}
-use Rattle.csr_file.specs.Table.{read_at, written, writable}
+use Rattle.csr_file.specs.Table.{csr_at, read_at, written, writable}
 use Rattle.csr_file.specs.Traps.{after_retire, returned}
-use Rattle.core_pair.specs.declared.phase.Phase.TheVariants.{Sleep}
-use Rattle.core_pair.specs.Core.{CoreState, finished, retired, entered}
-use Rattle.core_pair.specs.Access.{load_wanted, store_wanted}
+use Rattle.csr_file.specs.declared.causes.Exception.TheVariants.{IllegalInstruction, Breakpoint, EnvironmentCall}
+use Rattle.csr_file.specs.declared.names.Csr.{Csr}
+use Rattle.csr_file.specs.declared.names.Csr.TheVariants.{Minstret, Minstreth}
+use Rattle.core_pair.specs.declared.phase.Awaited.{Awaited}
+use Rattle.core_pair.specs.declared.phase.Phase.{Phase}
+use Rattle.core_pair.specs.declared.phase.Phase.TheVariants.{Run, Want, Sleep}
+use Rattle.core_pair.specs.Core.{CoreState, busy_after, hart_of}
+use Rattle.core_pair.specs.Hart.{HartState, Outcome, completes, retires, traps}
+use Rattle.core_pair.specs.Access.{load_awaited, load_request, store_awaited, store_request}
 
 -- the row goes to an address that is its own and its immediate
 abbrev pub is_jump : Op → Bool
@@ -22,31 +29,31 @@ is_jump Jal = true
 is_jump op = is_branch op
 
 -- the second operand of an arithmetic row
-abbrev pub second_operand : CoreState → Instr → ℕ
-second_operand c i = if is_alu_immediate i.op then i.imm else slice_index c.regs i.rs2
+abbrev pub second_operand : HartState → Instr → ℕ
+second_operand h i = if is_alu_immediate i.op then i.imm else slice_index h.regs i.rs2
 
 -- the cycles of a row that is neither a shift nor a branch
 abbrev pub cycles : Instr → ℕ
 cycles i = cost_of i.op 0 false
 
 -- an arithmetic row
-abbrev pub computed : CoreState → Instr → ℕ → CoreState
-computed c i next =
-    let b = second_operand c i in
-    retired c i.rd (alu_of i.op (slice_index c.regs i.rs1) b) next (cost_of i.op (b % 32) false)
+abbrev pub computed : HartState → Instr → ℕ → Outcome
+computed h i next =
+    let b = second_operand h i in
+    retires h i.rd (alu_of i.op (slice_index h.regs i.rs1) b) next (cost_of i.op (b % 32) false)
 
 -- a branch row
-abbrev pub branched : CoreState → Instr → ℕ → CoreState
-branched c i next =
-    let taken = taken_at i.op (slice_index c.regs i.rs1) (slice_index c.regs i.rs2) in
-    retired c 0 0 (if taken then wrapped_sum c.pc i.imm else next) (cost_of i.op 0 taken)
+abbrev pub branched : HartState → Instr → ℕ → Outcome
+branched h i next =
+    let taken = taken_at i.op (slice_index h.regs i.rs1) (slice_index h.regs i.rs2) in
+    retires h 0 0 (if taken then wrapped_sum h.pc i.imm else next) (cost_of i.op 0 taken)
 
 -- the operand of a CSR row: five bits of the instruction, or a register
-abbrev pub csr_operand : CoreState → Instr → Op → ℕ
-csr_operand c i Csrrwi = i.imm
-csr_operand c i Csrrsi = i.imm
-csr_operand c i Csrrci = i.imm
-csr_operand c i _ = slice_index c.regs i.rs1
+abbrev pub csr_operand : HartState → Instr → Op → ℕ
+csr_operand h i Csrrwi = i.imm
+csr_operand h i Csrrsi = i.imm
+csr_operand h i Csrrci = i.imm
+csr_operand h i _ = slice_index h.regs i.rs1
 
 -- the word that a CSR row writes
 abbrev pub csr_word : Op → ℕ → ℕ → ℕ
@@ -65,58 +72,138 @@ csr_writes i Csrrci = not (i.imm == 0)
 csr_writes i _ = true
 
 -- an instruction that wrote minstret or minstreth isn't counted
+abbrev pub counted_by : State → Option Csr → State
+counted_by csrs (Some Minstret) = csrs
+counted_by csrs (Some Minstreth) = csrs
+counted_by csrs _ = after_retire csrs
+
+-- the CSRs after an instruction that wrote a number
 abbrev pub counted : State → ℕ → State
-counted csrs number = if (number == 0xb02) || (number == 0xb82) then csrs else after_retire csrs
+counted csrs number = counted_by csrs (csr_at number)
+
+-- an illegal instruction
+abbrev pub illegal : HartState → ℕ → Outcome
+illegal h word = traps h (cause_of IllegalInstruction) word
 
 -- a CSR row that writes, where its CSR holds `old`
-abbrev pub csr_written : CoreState → Instr → ℕ → ℕ → ℕ → CoreState
-csr_written c i word next old =
+abbrev pub csr_written : HartState → Instr → ℕ → ℕ → ℕ → Outcome
+csr_written h i word next old =
     if writable i.csr then
-    finished (record c { csrs = counted (written c.csrs i.csr (csr_word i.op old (csr_operand c i i.op))) i.csr }) i.rd old next (cycles i)
-    else entered c 2 word
+    completes (record h { csrs = counted (written h.csrs i.csr (csr_word i.op old (csr_operand h i i.op))) i.csr }) i.rd old next (cycles i)
+    else illegal h word
 
 -- a CSR row, by what a read of its CSR gives; it is illegal where there is no such CSR
-abbrev pub csr_done : CoreState → Instr → ℕ → ℕ → Option ℕ → CoreState
-csr_done c i word next None = entered c 2 word
-csr_done c i word next (Some old) =
-    if csr_writes i i.op then csr_written c i word next old else retired c i.rd old next (cycles i)
+abbrev pub csr_done : HartState → Instr → ℕ → ℕ → Option ℕ → Outcome
+csr_done h i word next None = illegal h word
+csr_done h i word next (Some old) =
+    if csr_writes i i.op then csr_written h i word next old else retires h i.rd old next (cycles i)
 
--- the core after an instruction that was issued from `word`, where `next` is the address after it and `mip` what the interrupt
--- lines give
+-- a load or store: nothing of the hart changes before its grant
+abbrev pub accesses : HartState → Instr → Outcome
+accesses h i = record { hart = h; cycles = cycles i }
+
+-- what an instruction does to its hart, whatever phase the core is in, and the cycles that it takes (of a load or store those from
+-- its grant). It was issued from `word`, `next` is the address after it, and `mip` is what the interrupt lines give
+abbrev pub exec : HartState → Instr → ℕ → ℕ → ℕ → Op → Outcome
+exec h i word next mip Lui = retires h i.rd i.imm next (cycles i)
+exec h i word next mip Auipc = retires h i.rd (wrapped_sum h.pc i.imm) next (cycles i)
+exec h i word next mip Jal = retires h i.rd next (wrapped_sum h.pc i.imm) (cycles i)
+exec h i word next mip Jalr = retires h i.rd next (wrapped_sum (slice_index h.regs i.rs1) i.imm / 2 * 2) (cycles i)
+exec h i word next mip Beq = branched h i next
+exec h i word next mip Bne = branched h i next
+exec h i word next mip Blt = branched h i next
+exec h i word next mip Bge = branched h i next
+exec h i word next mip Bltu = branched h i next
+exec h i word next mip Bgeu = branched h i next
+exec h i word next mip Lb = accesses h i
+exec h i word next mip Lh = accesses h i
+exec h i word next mip Lw = accesses h i
+exec h i word next mip Lbu = accesses h i
+exec h i word next mip Lhu = accesses h i
+exec h i word next mip Sb = accesses h i
+exec h i word next mip Sh = accesses h i
+exec h i word next mip Sw = accesses h i
+exec h i word next mip Addi = computed h i next
+exec h i word next mip Slti = computed h i next
+exec h i word next mip Sltiu = computed h i next
+exec h i word next mip Xori = computed h i next
+exec h i word next mip Ori = computed h i next
+exec h i word next mip Andi = computed h i next
+exec h i word next mip Slli = computed h i next
+exec h i word next mip Srli = computed h i next
+exec h i word next mip Srai = computed h i next
+exec h i word next mip Add = computed h i next
+exec h i word next mip Sll = computed h i next
+exec h i word next mip Slt = computed h i next
+exec h i word next mip Sltu = computed h i next
+exec h i word next mip Xor = computed h i next
+exec h i word next mip Srl = computed h i next
+exec h i word next mip Or = computed h i next
+exec h i word next mip And = computed h i next
+exec h i word next mip Sub = computed h i next
+exec h i word next mip Sra = computed h i next
+exec h i word next mip Mul = computed h i next
+exec h i word next mip Mulh = computed h i next
+exec h i word next mip Mulhsu = computed h i next
+exec h i word next mip Mulhu = computed h i next
+exec h i word next mip Div = computed h i next
+exec h i word next mip Divu = computed h i next
+exec h i word next mip Rem = computed h i next
+exec h i word next mip Remu = computed h i next
+exec h i word next mip Fence = retires h 0 0 next (cycles i)
+exec h i word next mip FenceI = retires h 0 0 next (cycles i)
+exec h i word next mip Csrrw = csr_done h i word next (read_at h.csrs i.csr mip)
+exec h i word next mip Csrrs = csr_done h i word next (read_at h.csrs i.csr mip)
+exec h i word next mip Csrrc = csr_done h i word next (read_at h.csrs i.csr mip)
+exec h i word next mip Csrrwi = csr_done h i word next (read_at h.csrs i.csr mip)
+exec h i word next mip Csrrsi = csr_done h i word next (read_at h.csrs i.csr mip)
+exec h i word next mip Csrrci = csr_done h i word next (read_at h.csrs i.csr mip)
+exec h i word next mip Ecall = traps h (cause_of EnvironmentCall) 0
+exec h i word next mip Ebreak = traps h (cause_of Breakpoint) h.pc
+exec h i word next mip Mret = retires (record h { csrs = returned h.csrs }) 0 0 h.csrs.mepc (cycles i)
+exec h i word next mip Wfi = retires h 0 0 next (cycles i)
+
+-- what the core does after it issued an instruction: at a load or store it wants its access, at wfi it sleeps, and at every other
+-- row it is busy for the rest of the cycles
+abbrev pub phase_after : HartState → Instr → ℕ → Op → Phase
+phase_after h i cycles Lb = Want (load_request h i Byte)
+phase_after h i cycles Lh = Want (load_request h i Half)
+phase_after h i cycles Lw = Want (load_request h i Word)
+phase_after h i cycles Lbu = Want (load_request h i Byte)
+phase_after h i cycles Lhu = Want (load_request h i Half)
+phase_after h i cycles Sb = Want (store_request h i Byte)
+phase_after h i cycles Sh = Want (store_request h i Half)
+phase_after h i cycles Sw = Want (store_request h i Word)
+phase_after h i cycles Wfi = Sleep (cycles - 1)
+phase_after h i cycles _ = Run (cycles - 1)
+
+-- what the core keeps until a grant; a row that is neither a load nor a store leaves it
+abbrev pub awaited_after : Awaited → Instr → ℕ → Op → Awaited
+awaited_after a i next Lb = load_awaited i next true
+awaited_after a i next Lh = load_awaited i next true
+awaited_after a i next Lw = load_awaited i next false
+awaited_after a i next Lbu = load_awaited i next false
+awaited_after a i next Lhu = load_awaited i next false
+awaited_after a i next Sb = store_awaited next
+awaited_after a i next Sh = store_awaited next
+awaited_after a i next Sw = store_awaited next
+awaited_after a i next _ = a
+
+-- the core after an instruction came to something
+abbrev pub issued_to : CoreState → Instr → ℕ → Op → Outcome → CoreState
+issued_to c i next op o = record {
+  regs = o.hart.regs;
+  pc = o.hart.pc;
+  csrs = o.hart.csrs;
+  phase = phase_after (hart_of c) i o.cycles op;
+  awaited = awaited_after c.awaited i next op;
+}
+
+-- the core after an instruction
 abbrev pub by_row : CoreState → Instr → ℕ → ℕ → ℕ → Op → CoreState
-by_row c i word next mip Lui = retired c i.rd i.imm next (cycles i)
-by_row c i word next mip Auipc = retired c i.rd (wrapped_sum c.pc i.imm) next (cycles i)
-by_row c i word next mip Jal = retired c i.rd next (wrapped_sum c.pc i.imm) (cycles i)
-by_row c i word next mip Jalr = retired c i.rd next (wrapped_sum (slice_index c.regs i.rs1) i.imm / 2 * 2) (cycles i)
-by_row c i word next mip Beq = branched c i next
-by_row c i word next mip Bne = branched c i next
-by_row c i word next mip Blt = branched c i next
-by_row c i word next mip Bge = branched c i next
-by_row c i word next mip Bltu = branched c i next
-by_row c i word next mip Bgeu = branched c i next
-by_row c i word next mip Lb = load_wanted c i next Byte true
-by_row c i word next mip Lh = load_wanted c i next Half true
-by_row c i word next mip Lw = load_wanted c i next Word false
-by_row c i word next mip Lbu = load_wanted c i next Byte false
-by_row c i word next mip Lhu = load_wanted c i next Half false
-by_row c i word next mip Sb = store_wanted c i next Byte
-by_row c i word next mip Sh = store_wanted c i next Half
-by_row c i word next mip Sw = store_wanted c i next Word
-by_row c i word next mip Fence = retired c 0 0 next (cycles i)
-by_row c i word next mip FenceI = retired c 0 0 next (cycles i)
-by_row c i word next mip Csrrw = csr_done c i word next (read_at c.csrs i.csr mip)
-by_row c i word next mip Csrrs = csr_done c i word next (read_at c.csrs i.csr mip)
-by_row c i word next mip Csrrc = csr_done c i word next (read_at c.csrs i.csr mip)
-by_row c i word next mip Csrrwi = csr_done c i word next (read_at c.csrs i.csr mip)
-by_row c i word next mip Csrrsi = csr_done c i word next (read_at c.csrs i.csr mip)
-by_row c i word next mip Csrrci = csr_done c i word next (read_at c.csrs i.csr mip)
-by_row c i word next mip Ecall = entered c 11 0
-by_row c i word next mip Ebreak = entered c 3 c.pc
-by_row c i word next mip Mret = retired (record c { csrs = returned c.csrs }) 0 0 c.csrs.mepc (cycles i)
-by_row c i word next mip Wfi = record (retired c 0 0 next (cycles i)) { phase = Sleep (cycles i - 1) }
-by_row c i word next mip _ = computed c i next
+by_row c i word next mip op = issued_to c i next op (exec (hart_of c) i word next mip op)
 
 -- the same, for an instruction of so many bytes; a word without a row is illegal
 unfoldable pub executed : CoreState → Option Instr → ℕ → ℕ → ℕ → CoreState
-executed c None word length mip = entered c 2 word
+executed c None word length mip = busy_after c (illegal (hart_of c) word)
 executed c (Some i) word length mip = by_row c i word (wrapped_sum c.pc length) mip i.op

@@ -1,4 +1,4 @@
--- Fetching an instruction half by half.
+-- A definition: fetching an instruction half by half.
 use Rattle.std.specs.Prelude.{◌==◌, ℕ, ◌+◌, ◌*◌, ◌^◌, Option, Some, None, Result, Ok, Err, if◌then◌else◌}
 use Rattle.soc_words.specs.Word.{wrapped_sum}
 use Rattle.soc_bus.specs.Memory.{Memories, load_of}

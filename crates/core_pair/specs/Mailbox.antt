@@ -1,4 +1,4 @@
--- The mailbox that starts core 1.
+-- A definition: the mailbox that starts core 1.
 use Rattle.std.specs.Prelude.{◌==◌, ℕ, List, [], ◌∷◌, if◌then◌else◌}
 
 -- where core 1 begins, and what its x2 holds then

@@ -1,7 +1,9 @@
--- A core's turn.
+-- A definition: a core's turn.
 use Rattle.std.specs.Prelude.{◌==◌, ℕ, ◌-◌, Option, Some, None, if◌then◌else◌}
 use Rattle.std.specs.Option.{option_and_then}
 use Rattle.chip_base.specs.declared.hart.IssueRecord.{IssueRecord}
+use Rattle.csr_file.specs.Causes.{cause_of}
+use Rattle.csr_file.specs.declared.causes.Exception.TheVariants.{InstructionAccessFault}
 use Rattle.csr_file.specs.Traps.{after_tick, pending_in, wakes_in}
 use Rattle.soc_bus.specs.Memory.{Memories}
 use Rattle.rv_decode.specs.declared.instr.Instr.{Instr}
@@ -11,7 +13,8 @@ use Rattle.core_pair.specs.declared.fetch.Fetched.{Fetched}
 use Rattle.core_pair.specs.declared.fetch.Fetched.TheVariants.{Absent, Parcel, Word}
 use Rattle.core_pair.specs.declared.phase.Phase.{Phase}
 use Rattle.core_pair.specs.declared.phase.Phase.TheVariants.{Run, Want, Sleep, Parked, Monitor}
-use Rattle.core_pair.specs.Core.{CoreState, entered}
+use Rattle.core_pair.specs.Core.{CoreState, busy_after, hart_of}
+use Rattle.core_pair.specs.Hart.{traps}
 use Rattle.core_pair.specs.Execute.{executed}
 use Rattle.core_pair.specs.Fetch.{fetched_at}
 
@@ -24,18 +27,18 @@ pub record Turned : Type 0 where
 abbrev pub issued_from : CoreState → ℕ → ℕ → Option Instr → ℕ → ℕ → Turned
 issued_from c now mip instr word length = record {
   after = executed c instr word length mip;
-  issued = Some (record { cycle = now; hart = c.hart; pc = c.pc; word = word });
+  issued = Some (record { cycle = now; hart = c.csrs.hart; pc = c.pc; word = word });
 }
 
 -- the core goes on with what it fetched: where a half isn't there it enters a trap whose value is the half's address
 abbrev pub issued_by : CoreState → ℕ → ℕ → Fetched → Turned
-issued_by c now mip (Absent address) = record { after = entered c 1 address; issued = None }
+issued_by c now mip (Absent address) = record { after = busy_after c (traps (hart_of c) (cause_of InstructionAccessFault) address); issued = None }
 issued_by c now mip (Parcel parcel) = issued_from c now mip (option_and_then decoded (expanded parcel)) parcel 2
 issued_by c now mip (Word word) = issued_from c now mip (decoded word) word 4
 
 -- the core takes an interrupt, or else fetches
 abbrev pub acted_by : CoreState → ℕ → ℕ → Memories → Option ℕ → Turned
-acted_by c now mip m (Some cause) = record { after = entered c cause 0; issued = None }
+acted_by c now mip m (Some cause) = record { after = busy_after c (traps (hart_of c) cause 0); issued = None }
 acted_by c now mip m None = issued_by c now mip (fetched_at m c.pc)
 
 -- the core acts

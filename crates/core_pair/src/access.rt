@@ -1,9 +1,17 @@
-//! What an access means to the core that made it.
-ghost use Rattle.std.specs.Prelude.{◌≡◌, ◌%◌, ◌^◌, if◌then◌else◌};
-ghost use Rattle.core_pair.specs.Access.{extended, fault_cause};
+//! Loads and stores: the request at issue, and the grant.
+ghost use Rattle.std.specs.Prelude.{◌≡◌, ℕ, ◌%◌, ◌^◌, ◌<◌, if◌then◌else◌};
 ghost use Rattle.soc_bus.specs.declared.access.Width.TheVariants.{Byte, Half};
+ghost use Rattle.core_pair.specs.Access.{extended, granted_with, load_awaited, load_request, refusal, store_awaited, store_request};
+ghost use Rattle.core_pair.specs.Core.{hart_of};
 
-use soc_bus::{BusFault, Width};
+use crate::core_state::Core;
+use crate::phase::{Awaited, Phase};
+use csr_file::Exception;
+use rv_decode::Instr;
+use soc_bus::{BusFault, Request, Width};
+
+/// The cycles that a load or store takes from its grant.
+const ACCESS_CYCLES: u32 = 5;
 
 /// A loaded byte as a word.
 fn extended_byte(byte: u32, signed: bool) -> u32
@@ -30,7 +38,7 @@ fn extended_half(half: u32, signed: bool) -> u32
 }
 
 /// A loaded value as a word: its low bytes, sign-extended or with zeros above.
-pub(crate) fn extend(width: Width, signed: bool, value: u32) -> u32
+fn extend(width: Width, signed: bool, value: u32) -> u32
     ensures { result ≡ extended width signed value }
 {
     match width {
@@ -40,14 +48,78 @@ pub(crate) fn extend(width: Width, signed: bool, value: u32) -> u32
     }
 }
 
-/// The cause of the trap of a refused load or store.
-pub(crate) fn cause(is_store: bool, fault: BusFault) -> u32
-    ensures { result ≡ fault_cause is_store fault }
+/// The exception of a refused load or store.
+fn refusal(is_store: bool, fault: BusFault) -> Exception
+    ensures { result ≡ refusal is_store fault }
 {
     match (fault, is_store) {
-        (BusFault::Misaligned, false) => 4,
-        (BusFault::Misaligned, true) => 6,
-        (BusFault::Unmapped | BusFault::Narrow, false) => 5,
-        (BusFault::Unmapped | BusFault::Narrow, true) => 7,
+        (BusFault::Misaligned, false) => Exception::LoadAddressMisaligned,
+        (BusFault::Misaligned, true) => Exception::StoreAddressMisaligned,
+        (BusFault::Unmapped | BusFault::Narrow, false) => Exception::LoadAccessFault,
+        (BusFault::Unmapped | BusFault::Narrow, true) => Exception::StoreAccessFault,
+    }
+}
+
+impl Core {
+    /// Issues a load.
+    pub(crate) fn want_load(&mut self, i: &Instr, next: u32, width: Width, signed: bool)
+        requires rd { i.now.rd < 32 }
+        requires rs1 { i.now.rs1 < 32 }
+        requires next { next % 2 ≡ 0 }
+        ensures { self.new ≡ record self.old { phase = Phase.Want (load_request (hart_of self.old) i.now width); awaited = load_awaited i.now next signed } }
+    {
+        let addr = self.register(i.rs1).wrapping_add(i.imm);
+        self.phase = Phase::Want(Request {
+            addr,
+            width,
+            store: None,
+        });
+        self.awaited = Awaited {
+            rd: i.rd,
+            signed,
+            next,
+        };
+    }
+
+    /// Issues a store.
+    pub(crate) fn want_store(&mut self, i: &Instr, next: u32, width: Width)
+        requires rs1 { i.now.rs1 < 32 }
+        requires rs2 { i.now.rs2 < 32 }
+        requires next { next % 2 ≡ 0 }
+        ensures { self.new ≡ record self.old { phase = Phase.Want (store_request (hart_of self.old) i.now width); awaited = store_awaited next } }
+    {
+        let addr = self.register(i.rs1).wrapping_add(i.imm);
+        self.phase = Phase::Want(Request {
+            addr,
+            width,
+            store: Some(self.register(i.rs2)),
+        });
+        self.awaited = Awaited {
+            rd: 0,
+            signed: false,
+            next,
+        };
+    }
+
+    /// Gives the core the answer to the request that it waits for: at a load the value, with zeros above. Without a request
+    /// nothing changes.
+    #[tactic(auto, unfolding(crate::specs::Access::granted_with))]
+    pub fn granted(&mut self, answer: Result<u32, BusFault>)
+        ensures { self.new ≡ granted_with self.old answer }
+    {
+        let Phase::Want(request) = self.phase else {
+            return;
+        };
+        let awaited = self.awaited;
+        match answer {
+            Ok(value) => {
+                let word = extend(request.width, awaited.signed, value);
+                self.count_and_complete(awaited.rd, word, awaited.next, ACCESS_CYCLES);
+            }
+            Err(fault) => {
+                let exception = refusal(request.store.is_some(), fault);
+                self.enter(exception.cause(), request.addr);
+            },
+        }
     }
 }

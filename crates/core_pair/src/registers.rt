@@ -1,6 +1,6 @@
-//! The registers x0 to x31.
+//! The registers x0 to x31 of a hart.
 ghost use Rattle.std.specs.Prelude.{◌≡◌, ◌<◌, slice_index};
-ghost use Rattle.core_pair.specs.Core.{with_register};
+ghost use Rattle.core_pair.specs.Hart.{with_register};
 
 /// Writes a register; x0 keeps zero.
 pub(crate) fn set_register(regs: &mut [u32; 32], number: u8, value: u32)

@@ -130,3 +130,16 @@ retire_word s mip n low_apart high_apart c at_n = grind arith
 pub retire_others : (s : State) (n mip : ℕ) → n ≢ 0xb02 → n ≢ 0xb82 → read_at (after_retire s) n mip ≡ read_at s n mip
 unfolding read_at
 retire_others s n mip low_apart high_apart = same_in s (after_retire s) mip n (csr_at n) refl (retire_word s mip n low_apart high_apart)
+
+write_word_leaves_mcycle : (s : State) (value n : ℕ) (c : Csr) → (row_of c).number ≡ n → n ≢ 0xb00 → n ≢ 0xb80 → (with_word s c (kept (row_of c).rule (word_of s 0 c) value)).mcycle ≡ s.mcycle
+write_word_leaves_mcycle s value n c at_n low_apart high_apart = grind arith
+
+-- a write leaves mcycle where it names neither half of it
+write_leaves_mcycle_in : (s : State) (value n : ℕ) (o : Option Csr) → csr_at n ≡ o → n ≢ 0xb00 → n ≢ 0xb80 → (written_in s o value).mcycle ≡ s.mcycle
+write_leaves_mcycle_in s value n None at_n low_apart high_apart = refl
+write_leaves_mcycle_in s value n (Some c) at_n low_apart high_apart = write_word_leaves_mcycle s value n c (number_of n c at_n) low_apart high_apart
+
+-- serves those who count turns: a write of another CSR leaves mcycle
+pub write_leaves_mcycle : (s : State) (n value : ℕ) → n ≢ 0xb00 → n ≢ 0xb80 → (written s n value).mcycle ≡ s.mcycle
+unfolding written
+write_leaves_mcycle s n value low_apart high_apart = write_leaves_mcycle_in s value n (csr_at n) refl low_apart high_apart
