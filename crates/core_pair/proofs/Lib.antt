@@ -1,3 +1,5 @@
+pub mod Grants
 pub mod Issues
 pub mod Jumps
+pub mod Turns
 pub mod Waits

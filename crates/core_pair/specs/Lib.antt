@@ -3,6 +3,8 @@ pub mod Clint
 pub mod Core
 pub mod Execute
 pub mod Fetch
+pub mod GrantLaws
 pub mod Hart
 pub mod Mailbox
 pub mod Turn
+pub mod TurnLaws

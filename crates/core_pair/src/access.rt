@@ -1,8 +1,9 @@
 //! Loads and stores: the request at issue, and the grant.
-ghost use Rattle.std.specs.Prelude.{◌≡◌, ℕ, ◌%◌, ◌^◌, ◌<◌, if◌then◌else◌};
+ghost use Rattle.std.specs.Prelude.{◌≡◌, ℕ, ◌%◌, ◌^◌, ◌<◌, IfErr, IfOk, IfSome, None, if◌then◌else◌};
 ghost use Rattle.soc_bus.specs.declared.access.Width.TheVariants.{Byte, Half};
 ghost use Rattle.core_pair.specs.Access.{extended, granted_with, load_awaited, load_request, refusal, store_awaited, store_request};
-ghost use Rattle.core_pair.specs.Core.{hart_of};
+ghost use Rattle.core_pair.specs.Core.{hart_of, wanted_in};
+ghost use Rattle.core_pair.specs.GrantLaws.{AccessRetires, AccessTraps};
 
 use crate::core_state::Core;
 use crate::phase::{Awaited, Phase};
@@ -101,10 +102,8 @@ impl Core {
         };
     }
 
-    /// Gives the core the answer to the request that it waits for: at a load the value, with zeros above. Without a request
-    /// nothing changes.
     #[tactic(auto, unfolding(crate::specs::Access::granted_with))]
-    pub fn granted(&mut self, answer: Result<u32, BusFault>)
+    fn resume(&mut self, answer: Result<u32, BusFault>)
         ensures { self.new ≡ granted_with self.old answer }
     {
         let Phase::Want(request) = self.phase else {
@@ -121,5 +120,18 @@ impl Core {
                 self.enter(exception.cause(), request.addr);
             },
         }
+    }
+
+    /// Gives the core the answer to the request that it waits for: at a load the value, with zeros above. The load or store retires,
+    /// or, where it is refused, the core enters a trap. Without a request nothing changes.
+    #[tactic(auto, using(crate::proofs::Grants::granted_retires, crate::proofs::Grants::granted_traps, crate::proofs::Grants::granted_unasked))]
+    pub fn granted(&mut self, answer: Result<u32, BusFault>)
+        ensures state { self.new ≡ granted_with self.old answer }
+        ensures retires { IfSome (wanted_in self.old.phase) (λ r. IfOk answer (λ value. AccessRetires self.old self.new r value)) }
+        ensures traps { IfSome (wanted_in self.old.phase) (λ r. IfErr answer (λ fault. AccessTraps self.old self.new r fault)) }
+        ensures unasked { wanted_in self.old.phase ≡ None → self.new ≡ self.old }
+    {
+        let _known = &self.regs;
+        self.resume(answer);
     }
 }

@@ -25,14 +25,14 @@ pub struct Core {
 }
 
 impl Model for Core {
-    ghost use Rattle.std.specs.Prelude.{◌≡◌, ◌<◌, ◌%◌, slice_index};
+    ghost use Rattle.std.specs.Prelude.{◌≡◌, ◌<◌, ◌%◌, length, slice_index};
     ghost use Rattle.core_pair.specs.Core.{CoreState};
 
     ghost Value = { CoreState };
 
     ghost view = { λ c. record { regs = c.regs; pc = c.pc; csrs = c.csrs; phase = c.phase; awaited = c.awaited } };
 
-    ghost invariant = { λ c. (c.pc % 2 ≡ 0) × (c.awaited.next % 2 ≡ 0) × (c.awaited.rd < 32) × (slice_index c.regs 0 ≡ 0) };
+    ghost invariant = { λ c. (c.pc % 2 ≡ 0) × (c.awaited.next % 2 ≡ 0) × (c.awaited.rd < 32) × (slice_index c.regs 0 ≡ 0) × (length c.regs ≡ 32) };
 }
 
 impl Core {
