@@ -1,3 +1,4 @@
+pub mod Executions
 pub mod Grants
 pub mod Issues
 pub mod Jumps

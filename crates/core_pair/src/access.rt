@@ -131,7 +131,7 @@ impl Core {
         ensures traps { IfSome (wanted_in self.old.phase) (λ r. IfErr answer (λ fault. AccessTraps self.old self.new r fault)) }
         ensures unasked { wanted_in self.old.phase ≡ None → self.new ≡ self.old }
     {
-        let _known = &self.regs;
+        let _invariant = &self.regs;
         self.resume(answer);
     }
 }

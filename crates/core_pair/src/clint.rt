@@ -104,7 +104,7 @@ impl Clint {
         }
     }
 
-    /// Whether hart 1 has a software interrupt, which starts it where it is parked.
+    /// Whether hart 1 has a software interrupt, which starts core 1 where it is parked.
     pub fn starts(&self) -> bool
         ensures { result ≡ (self.now.msip1 == 1) }
     {

@@ -3,11 +3,12 @@ ghost use Rattle.std.specs.Prelude.{◌≡◌, ◌==◌, ℕ, ◌+◌, ◌-◌, 
 ghost use Rattle.std.specs.Option.{option_and_then};
 ghost use Rattle.rv_decode.specs.Rows.{decoded};
 ghost use Rattle.rv_decode.specs.Parcels.{expanded};
-ghost use Rattle.core_pair.specs.Core.{wanted_in};
+ghost use Rattle.soc_words.specs.Word.{wrapped_sum};
+ghost use Rattle.core_pair.specs.Core.{hart_of, wanted_in};
 ghost use Rattle.core_pair.specs.Execute.{is_jump};
 ghost use Rattle.core_pair.specs.Fetch.{fetched_at};
 ghost use Rattle.core_pair.specs.Turn.{acted, issued_by, issued_from, running, sleeping, ticked, turned};
-ghost use Rattle.core_pair.specs.TurnLaws.{NamesNoMcycle, acts, counts_turns, is_whole, waited};
+ghost use Rattle.core_pair.specs.TurnLaws.{NamesNoMcycle, acts, counts_turns, hart_after, is_whole, length_in, waited};
 ghost use Rattle.csr_file.specs.Traps.{after_tick, pending_in};
 
 use crate::core_state::Core;
@@ -135,16 +136,17 @@ impl Core {
     }
 
     /// The core's turn in the cycle `now`, where `mip` is what the interrupt lines give. An instruction is issued exactly where the
-    /// core acts, takes no interrupt and finds all halves of the instruction; an illegal word counts as issued. None otherwise. A
-    /// parked core, and one in whose place the monitor stands, doesn't change. In every other phase mcycle adds one before the core
-    /// acts, so that of its change only a write of mcycle tells otherwise; a core that doesn't act changes in nothing else than its
-    /// wait.
+    /// core acts, takes no interrupt and finds all halves of the instruction; an illegal word counts as issued. None otherwise.
+    /// mcycle adds one before the core acts, but where the core is parked or the monitor stands in its place: it doesn't change then.
+    /// A turn in which the core doesn't act changes nothing but mcycle and how long the core still waits.
     #[tactic(auto, using(crate::proofs::Issues::recorded, crate::proofs::Waits::waiting, crate::proofs::Turns::issues, crate::proofs::Turns::waits, crate::proofs::Turns::counts), unfolding(crate::specs::Turn::turned))]
     pub fn issue(&mut self, now: Cycle, mip: u32, memory: &Memory) -> Option<IssueRecord>
         ensures after { self.new ≡ (turned self.old now mip memory.now).after }
         ensures issued { result ≡ (turned self.old now mip memory.now).issued }
         ensures issues { is_some result ≡ (acts self.old mip && (not (is_some (pending_in self.old.csrs mip)) && is_whole memory.now self.old.pc)) }
         ensures recorded { IfSome result (λ r. (r.cycle ≡ now) × (r.hart ≡ self.old.csrs.hart) × (r.pc ≡ self.old.pc)) }
+        // it does to the hart what its row says, and where it wants an access it keeps the address to go on from
+        ensures executes { IfSome result (λ r. (hart_of self.new ≡ hart_after (hart_of (ticked self.old)) mip (fetched_at memory.now self.old.pc)) × (IfSome (wanted_in self.new.phase) (λ request. self.new.awaited.next ≡ wrapped_sum self.old.pc (length_in (fetched_at memory.now self.old.pc))))) }
         ensures out { (self.old.phase ≡ Phase.Parked) ⊎ (self.old.phase ≡ Phase.Monitor) → (self.new ≡ self.old) × (result ≡ None) }
         ensures counts { IfSome result (λ r. NamesNoMcycle (fetched_at memory.now self.old.pc)) → self.new.csrs.mcycle ≡ (if counts_turns self.old.phase then (self.old.csrs.mcycle + 1) % 2 ^ 64 else self.old.csrs.mcycle) }
         ensures busy { acts self.old mip ≡ false → counts_turns self.old.phase ≡ true → self.new ≡ record self.old { csrs = after_tick self.old.csrs; phase = waited self.old.phase } }
