@@ -1,13 +1,14 @@
-/* Copies sixteen words by DMA, sleeps until its interrupt, and returns the sum of the copy. */
-#include "../common/chip.h"
+/* Copies words by DMA, sleeps until its interrupt, and returns the sum of the copy. The input pins tell how many words: sixteen where all
+   are low. */
+#include "chip.h"
 
-#define COUNT 16
+#define MOST 40
 
-static uint32_t from[COUNT];
-static uint32_t to[COUNT];
+static uint32_t from[MOST];
+static uint32_t to[MOST];
 static volatile uint32_t done;
 
-__attribute__((interrupt("machine"), aligned(4))) static void on_dma(void)
+INTERRUPT_HANDLER void on_dma(void)
 {
     done++;
     DMA_CTRL = 0;
@@ -15,16 +16,18 @@ __attribute__((interrupt("machine"), aligned(4))) static void on_dma(void)
 
 int main(void)
 {
-    for (uint32_t i = 0; i < COUNT; i++) { from[i] = 3 * i + 1; }
-    write_csr(mtvec, (uint32_t)&on_dma);
-    set_csr(mie, 1u << 16);
-    set_csr(mstatus, 1u << 3);
+    uint32_t count = GPIO_IN;
+    if (count == 0) { count = 16; }
+    if (count > MOST) { return -1; }
+    for (uint32_t i = 0; i < count; i++) { from[i] = 3 * i + 1; }
+    set_csr(mie, DMA_LINE);
+    enable_interrupts();
     DMA_SRC = (uint32_t)from;
     DMA_DST = (uint32_t)to;
-    DMA_COUNT = COUNT;
-    DMA_CTRL = 1 | 1 << 1;
-    while (!done) { wait_for_interrupt(); }
+    DMA_COUNT = count;
+    DMA_CTRL = DMA_START | DMA_INTERRUPT;
+    sleep_until(done);
     uint32_t total = 0;
-    for (uint32_t i = 0; i < COUNT; i++) { total += to[i]; }
+    for (uint32_t i = 0; i < count; i++) { total += to[i]; }
     return (int)total;
 }

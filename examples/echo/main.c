@@ -1,13 +1,9 @@
 /* Echoes what UART0 receives, in capital letters, from its interrupt; a pin counts the bytes. The main loop sleeps. */
-#include "../common/chip.h"
-
-#define UART_ENABLE     1u
-#define UART_INTERRUPT  (1u << 22)
-#define UART_RECEIVED   (1u << 16)
+#include "chip.h"
 
 static volatile uint32_t received;
 
-__attribute__((interrupt("machine"), aligned(4))) static void on_uart0(void)
+INTERRUPT_HANDLER void on_uart0(void)
 {
     while (UART0_CTRL & UART_RECEIVED) {
         char c = (char)UART0_DATA;
@@ -20,12 +16,11 @@ __attribute__((interrupt("machine"), aligned(4))) static void on_uart0(void)
 
 int main(void)
 {
-    write_csr(mtvec, (uint32_t)&on_uart0);
     UART0_CTRL = UART_ENABLE | UART_INTERRUPT;
-    set_csr(mie, 1u << 17);
-    set_csr(mstatus, 1u << 3);
+    set_csr(mie, UART0_LINE);
+    enable_interrupts();
     put_text("> ");
-    while (received < 6) { wait_for_interrupt(); }
+    sleep_until(received >= 6);
     while (UART0_CTRL & UART_BUSY) { }
     return (int)received;
 }

@@ -1,5 +1,5 @@
 /* Walks a light over four pins, and dims a channel of the PWM in three steps. */
-#include "../common/chip.h"
+#include "chip.h"
 
 int main(void)
 {
@@ -7,7 +7,7 @@ int main(void)
     GPIO_OUT = 0;
     PWM_DUTY(0) = 0x40;
     PWM_DUTY(1) = 0xff;
-    PWM_CTRL = 1;
+    PWM_CTRL = PWM_ENABLE | PWM_PRESCALER(PRESCALER_2);
     for (volatile int i = 0; i < 60; i++) { }
     PWM_DUTY(0) = 0x20;
     for (volatile int i = 0; i < 60; i++) { }

@@ -1,5 +1,5 @@
 /* Hart 1 is started twice. The second software interrupt doesn't start it again; it only wakes it from its sleep. */
-#include "../common/chip.h"
+#include "chip.h"
 
 static volatile uint32_t starts;
 static volatile uint32_t wakes;
@@ -7,9 +7,10 @@ static uint32_t stack[64];
 
 static void second_hart(void)
 {
+    use_trap_vectors();
     starts++;
     MSIP(1) = 0;
-    set_csr(mie, 1u << 3);
+    set_csr(mie, SOFTWARE_INTERRUPT);
     for (;;) {
         wait_for_interrupt();
         wakes++;
@@ -19,9 +20,7 @@ static void second_hart(void)
 
 int main(void)
 {
-    MAILBOX_PC = (uint32_t)&second_hart;
-    MAILBOX_SP = (uint32_t)(stack + 64);
-    MSIP(1) = 1;
+    start_hart1(second_hart, stack + 64);
     while (!starts || MSIP(1)) { }
     for (volatile int i = 0; i < 20; i++) { }
     MSIP(1) = 1;

@@ -1,24 +1,25 @@
 /* Counts five timer interrupts, one every 400 cycles, and sleeps in between. */
-#include "../common/chip.h"
+#include "chip.h"
 
 #define PERIOD 400
 
 static volatile uint32_t ticks;
+static uint64_t due;
 
-__attribute__((interrupt("machine"), aligned(4))) static void on_timer(void)
+INTERRUPT_HANDLER void on_timer(void)
 {
     ticks++;
-    MTIMECMP0_LOW = MTIMECMP0_LOW + PERIOD;
+    due += PERIOD;
+    set_mtimecmp(0, due);
 }
 
 int main(void)
 {
-    write_csr(mtvec, (uint32_t)&on_timer);
-    MTIMECMP0_LOW = MTIME_LOW + PERIOD;
-    MTIMECMP0_HIGH = 0;
-    set_csr(mie, 1u << 7);
-    set_csr(mstatus, 1u << 3);
-    while (ticks < 5) { wait_for_interrupt(); }
+    due = read_mtime() + PERIOD;
+    set_mtimecmp(0, due);
+    set_csr(mie, TIMER_INTERRUPT);
+    enable_interrupts();
+    sleep_until(ticks >= 5);
     write_csr(mie, 0);
     return (int)ticks;
 }

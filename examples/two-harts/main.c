@@ -1,5 +1,5 @@
 /* Hart 0 starts hart 1 through the mailbox; each sums half of the numbers below 100, and hart 0 adds the sums up. */
-#include "../common/chip.h"
+#include "chip.h"
 
 static volatile uint32_t upper_sum;
 static volatile uint32_t upper_done;
@@ -14,6 +14,7 @@ static uint32_t sum(uint32_t from, uint32_t to)
 
 static void second_hart(void)
 {
+    use_trap_vectors();
     upper_sum = sum(50, 100);
     upper_done = 1;
     MSIP(1) = 0;
@@ -22,9 +23,7 @@ static void second_hart(void)
 
 int main(void)
 {
-    MAILBOX_PC = (uint32_t)&second_hart;
-    MAILBOX_SP = (uint32_t)(upper_stack + 64);
-    MSIP(1) = 1;
+    start_hart1(second_hart, upper_stack + 64);
     uint32_t lower_sum = sum(0, 50);
     while (!upper_done) { }
     return (int)(lower_sum + upper_sum);
