@@ -3,7 +3,6 @@ use Rattle.std.proofs.Common.{◌≡◌, ◌==◌, ℕ, ◌-◌, Bool, true, fal
 use Rattle.std.specs.Option.{option_and_then}
 use Rattle.csr_file.specs.Traps.{pending_in, wakes_in}
 use Rattle.soc_bus.specs.Memory.{Memories}
-use Rattle.soc_bus.specs.declared.access.Request.{Request}
 use Rattle.soc_words.specs.Word.{wrapped_sum}
 use Rattle.rv_decode.specs.Parcels.{expanded}
 use Rattle.rv_decode.specs.Rows.{decoded}

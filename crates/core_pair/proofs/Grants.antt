@@ -1,9 +1,8 @@
 -- What a grant leaves of the core that waited for it.
-use Rattle.std.proofs.Common.{◌≡◌, ◌==◌, ℕ, ◌<◌, Bool, true, false, Option, Some, None, Result, Ok, Err, IfSome, IfOk, IfErr, refl, arith, List, slice_index, slice_set, length}
+use Rattle.std.proofs.Common.{◌≡◌, ◌==◌, ℕ, ◌<◌, None, Result, Ok, Err, IfSome, IfOk, IfErr, refl, arith, List, slice_index, length}
 use Rattle.std.proofs.lemmas.List.{get_or-set_same, get_or-set_other}
 use Rattle.csr_file.specs.Traps.{trapped}
 use Rattle.soc_bus.specs.declared.access.BusFault.{BusFault}
-use Rattle.soc_bus.specs.declared.access.Request.{Request}
 use Rattle.core_pair.specs.declared.phase.Phase.{Phase}
 use Rattle.core_pair.specs.declared.phase.Phase.TheVariants.{Run, Want, Sleep, Parked, Monitor}
 use Rattle.core_pair.specs.Access.{extended, granted_in, granted_with}

@@ -1,15 +1,12 @@
 -- When a turn issues an instruction, when mcycle counts it, and what a turn without an act leaves.
 use Rattle.std.proofs.Common.{◌≡◌, ◌==◌, ◌≢◌, ℕ, ◌+◌, ◌-◌, ◌%◌, ◌^◌, Bool, true, false, ◌&&◌, ◌||◌, Option, Some, None, IfSome, refl, ap, arith, sym, ◌∙◌, if◌then◌else◌}
-use Rattle.std.proofs.lemmas.Bool.{eqb-true}
 use Rattle.std.specs.Prelude.{is_some}
 use Rattle.std.specs.Option.{option_and_then}
 use mathlib.Core.Bool.{not}
 use Rattle.csr_file.proofs.Laws.{write_leaves_mcycle}
-use Rattle.csr_file.specs.Causes.{cause_of}
 use Rattle.csr_file.specs.State.{State}
 use Rattle.csr_file.specs.Table.{csr_at, read_at, row_of, writable, written}
 use Rattle.csr_file.specs.Traps.{after_tick, pending_in, returned, trapped, wakes_in}
-use Rattle.csr_file.specs.declared.causes.Exception.TheVariants.{InstructionAccessFault}
 use Rattle.csr_file.specs.declared.names.Csr.{Csr}
 use Rattle.csr_file.specs.declared.names.Csr.TheVariants.{Mcycle, Mcycleh}
 use Rattle.soc_bus.specs.Memory.{Memories}
@@ -27,7 +24,7 @@ use Rattle.core_pair.specs.Core.{CoreState, hart_of}
 use Rattle.core_pair.specs.Execute.{counted, counted_by, csr_done, csr_operand, csr_word, csr_writes, csr_written, cycles, exec, executed, illegal}
 use Rattle.core_pair.specs.Fetch.{fetched_at, fetched_by, half_at, word_with}
 use Rattle.core_pair.specs.Hart.{HartState, Outcome, completed, completes, entered, retired, retires}
-use Rattle.core_pair.specs.Turn.{Turned, acted, acted_by, idle, issued_by, running, sleeping, ticked, turned, turned_in}
+use Rattle.core_pair.specs.Turn.{Turned, acted, acted_by, idle, issued_by, ticked, turned, turned_in}
 use Rattle.core_pair.specs.TurnLaws.{NamesNoMcycle, acts, acts_in, counts_turns, is_whole, is_whole_by, waited}
 
 -- an instruction is issued exactly where its halves are there

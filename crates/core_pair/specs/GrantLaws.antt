@@ -1,5 +1,5 @@
 -- The words of laws over definitions: what a grant leaves of the core that waited for it.
-use Rattle.std.specs.Prelude.{◌≡◌, ◌==◌, ℕ, ◌<◌, ◌&&◌, Bool, slice_index, is_some, if◌then◌else◌}
+use Rattle.std.specs.Prelude.{◌≡◌, ◌==◌, ℕ, ◌<◌, ◌&&◌, slice_index, is_some, if◌then◌else◌}
 use mathlib.Core.Bool.{not}
 use Rattle.csr_file.specs.Causes.{cause_of}
 use Rattle.csr_file.specs.Traps.{after_retire}

@@ -1,5 +1,5 @@
 -- The words of laws over definitions: when a core acts in a turn, when a turn is counted, and what a turn without an act leaves.
-use Rattle.std.specs.Prelude.{◌≡◌, ◌==◌, ◌≢◌, ℕ, ◌-◌, Bool, true, false, ◌&&◌, ◌||◌, Option, Some, None, IfSome, is_some}
+use Rattle.std.specs.Prelude.{◌==◌, ◌≢◌, ℕ, ◌-◌, Bool, true, false, ◌&&◌, ◌||◌, Option, Some, None, IfSome, is_some}
 use Rattle.std.specs.Option.{option_and_then}
 use Rattle.csr_file.specs.Table.{row_of}
 use Rattle.csr_file.specs.Traps.{wakes_in}
@@ -16,7 +16,7 @@ use Rattle.core_pair.specs.Hart.{HartState}
 use Rattle.core_pair.specs.declared.fetch.Fetched.{Fetched}
 use Rattle.core_pair.specs.declared.fetch.Fetched.TheVariants.{Absent, Parcel, Word}
 use Rattle.core_pair.specs.declared.phase.Phase.{Phase}
-use Rattle.core_pair.specs.declared.phase.Phase.TheVariants.{Run, Want, Sleep, Parked, Monitor}
+use Rattle.core_pair.specs.declared.phase.Phase.TheVariants.{Run, Sleep, Parked, Monitor}
 
 -- mcycle counts the turns of this phase: all but those of a parked core and of one in whose place the monitor stands
 abbrev pub counts_turns : Phase → Bool

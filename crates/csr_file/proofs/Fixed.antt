@@ -1,5 +1,5 @@
 -- The fixed bits of CSRs: a write of the word that a CSR holds would keep it.
-use Rattle.std.proofs.Common.{◌≡◌, ℕ, ◌+◌, ◌%◌, ◌/◌, ◌*◌, ◌^◌, ◌<◌, ◌≤◌, ap, arith, sym, ◌∙◌, bit_and, bit_or, lit≤, Bool, true, false, refl, if◌then◌else◌}
+use Rattle.std.proofs.Common.{◌≡◌, ℕ, ◌%◌, ◌/◌, ◌*◌, ◌^◌, ◌<◌, ap, arith, sym, ◌∙◌, bit_and, bit_or, lit≤, Bool, true, false, refl, if◌then◌else◌}
 use Rattle.std.specs.Int.Bits.{and_self}
 use Rattle.std.proofs.lemmas.Nat.Bits.{bit_at_or, bit_at_and, same_from_bits}
 use Rattle.csr_file.specs.Table.{IsKeptBy}

@@ -1,5 +1,5 @@
 -- An interrupt is pending exactly where a bit that mie may have is set.
-use Rattle.std.proofs.Common.{◌≡◌, ◌==◌, ℕ, zero, suc, ◌+◌, ◌^◌, ◌<◌, Bool, true, false, ◌&&◌, ◌||◌, List, [], ◌∷◌, Option, Some, None, refl, ap, arith, sym, ◌∙◌, bit_and, min, ◌≤◌, ◌⊎◌, inl, inr, lit<, ◌↔◌, if◌then◌else◌}
+use Rattle.std.proofs.Common.{◌≡◌, ◌==◌, ℕ, zero, suc, ◌<◌, Bool, true, false, ◌&&◌, ◌||◌, List, [], ◌∷◌, Option, Some, None, refl, ap, arith, sym, ◌∙◌, bit_and, min, ◌≤◌, ◌⊎◌, inl, inr, lit<, ◌↔◌, if◌then◌else◌}
 use Rattle.std.proofs.lemmas.Bool.{eqb-true, or_cases, cases_lt}
 use Rattle.std.proofs.Math.Nat.{min-zero}
 use Rattle.std.specs.Int.{bit_at}
