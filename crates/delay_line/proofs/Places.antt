@@ -1,15 +1,15 @@
--- A queue of messages as the places of a delay line.
+-- A queue of messages as the places of a link.
 use Rattle.std.proofs.Common.{◌≡◌, ℕ, zero, suc, ◌+◌, ◌<◌, ◌≤◌, List, [], ◌∷◌, ◌++◌, Option, Some, None, refl, ap, sym, ◌∙◌, arith, subst, add-one}
 use Rattle.std.specs.Prelude.{length, ◌==◌, if◌then◌else◌, Bool, true, false}
 use Rattle.std.proofs.lemmas.Bool.Decides.{nat_tests}
-use Rattle.soc_words.specs.Line.{first_of, moved}
-use Rattle.delay_line.specs.Queue.{places_of, ArriveIn, empty_line, left_after, arriving_of}
-use Rattle.delay_line.specs.declared.line.Timed.{Timed}
+use Rattle.soc_words.specs.Link.{link_first, link_moved}
+use Rattle.delay_line.specs.Queue.{places_of, ArriveIn, empty_link, left_after, arriving_of}
+use Rattle.delay_line.specs.declared.link.Timed.{Timed}
 
-pub places_of_nothing : {M : Type 0} (now count : ℕ) → places_of {M = M} [] now count ≡ empty_line count
-unfolding places_of empty_line
+pub places_of_nothing : {M : Type 0} (now count : ℕ) → places_of {M = M} [] now count ≡ empty_link count
+unfolding places_of empty_link
 places_of_nothing now zero = refl
-places_of_nothing now (suc count) = ap (λ line. None ∷ line) (places_of_nothing (suc now) count)
+places_of_nothing now (suc count) = ap (λ link. None ∷ link) (places_of_nothing (suc now) count)
 
 places_here : {M : Type 0} (t : Timed M) (rest : List (Timed M)) (now count : ℕ) → (t.at == now) ≡ true
     → places_of (t ∷ rest) now (suc count) ≡ Some t.msg ∷ places_of rest (suc now) count
@@ -50,11 +50,11 @@ sym_test a b e = grind (arith, nat_tests)
 -- one more cycle, in which nothing arrives
 more_none : {M : Type 0} (count now : ℕ) (q : List (Timed M)) → ArriveIn now (now + count) q
     → places_of q now (suc count) ≡ places_of q now count ++ None ∷ []
-more_none zero now [] a = places_empty now zero ∙ ap (λ line. None ∷ line) (places_none (suc now) []) ∙ sym (ap (λ line. line ++ None ∷ []) (places_none now []))
+more_none zero now [] a = places_empty now zero ∙ ap (λ link. None ∷ link) (places_none (suc now) []) ∙ sym (ap (λ link. link ++ None ∷ []) (places_none now []))
 more_none zero now (t ∷ rest) a = absurd (omega (arith, a.0, a.1))
 more_none (suc count) now [] a =
-    places_empty now (suc count) ∙ ap (λ line. None ∷ line) (more_none count (suc now) [] (omega arith))
-    ∙ sym (ap (λ line. line ++ None ∷ []) (places_empty now count))
+    places_empty now (suc count) ∙ ap (λ link. None ∷ link) (more_none count (suc now) [] (omega arith))
+    ∙ sym (ap (λ link. link ++ None ∷ []) (places_empty now count))
 more_none {M = M} (suc count) now (t ∷ rest) a =
     let here : (b : Bool) → (t.at == now) ≡ b → places_of (t ∷ rest) now (suc (suc count)) ≡ places_of (t ∷ rest) now (suc count) ++ None ∷ []
     = λ b e. more_none_by count now t rest a b e (more_none count (suc now) rest) (more_none count (suc now) (t ∷ rest)) in
@@ -68,23 +68,23 @@ more_none {M = M} (suc count) now (t ∷ rest) a =
         let same : t.at ≡ now = test_true t.at now e in
         let far : now + suc count ≡ suc now + count = omega arith in
         let inside : ArriveIn (suc now) (suc now + count) rest = subst (λ to. ArriveIn (suc now) to rest) far (subst (λ at. ArriveIn (suc at) (now + suc count) rest) same a.2) in
-        places_here t rest now (suc count) e ∙ ap (λ line. Some t.msg ∷ line) (p inside) ∙ sym (ap (λ line. line ++ None ∷ []) (places_here t rest now count e))
+        places_here t rest now (suc count) e ∙ ap (λ link. Some t.msg ∷ link) (p inside) ∙ sym (ap (λ link. link ++ None ∷ []) (places_here t rest now count e))
     more_none_by count now t rest a false e p q =
         let far : now + suc count ≡ suc now + count = omega arith in
         let inside : ArriveIn (suc now) (suc now + count) (t ∷ rest) = (test_false now t.at (sym_test t.at now e) a.0, omega (arith, a.1), subst (λ to. ArriveIn (suc t.at) to rest) far a.2) in
-        places_later t rest now (suc count) e ∙ ap (λ line. None ∷ line) (q inside) ∙ sym (ap (λ line. line ++ None ∷ []) (places_later t rest now count e))
+        places_later t rest now (suc count) e ∙ ap (λ link. None ∷ link) (q inside) ∙ sym (ap (λ link. link ++ None ∷ []) (places_later t rest now count e))
 
 -- one more cycle, in which a message arrives
 more_some : {M : Type 0} (count now : ℕ) (q : List (Timed M)) (at : ℕ) (msg : M) → at ≡ now + count → ArriveIn now (now + count) q
     → places_of (q ++ record { at = at; msg = msg } ∷ []) now (suc count) ≡ places_of q now count ++ Some msg ∷ []
 more_some zero now [] at msg e a =
     places_here (record { at = at; msg = msg }) [] now zero (test_same at now (omega (arith, e)))
-    ∙ ap (λ line. Some msg ∷ line) (places_none (suc now) []) ∙ sym (ap (λ line. line ++ Some msg ∷ []) (places_none now []))
+    ∙ ap (λ link. Some msg ∷ link) (places_none (suc now) []) ∙ sym (ap (λ link. link ++ Some msg ∷ []) (places_none now []))
 more_some zero now (t ∷ rest) at msg e a = absurd (omega (arith, a.0, a.1))
 more_some (suc count) now [] at msg e a =
     places_later (record { at = at; msg = msg }) [] now (suc count) (test_apart at now (omega (arith, e)))
-    ∙ ap (λ line. None ∷ line) (more_some count (suc now) [] at msg (omega (arith, e)) (omega arith))
-    ∙ sym (ap (λ line. line ++ Some msg ∷ []) (places_empty now count))
+    ∙ ap (λ link. None ∷ link) (more_some count (suc now) [] at msg (omega (arith, e)) (omega arith))
+    ∙ sym (ap (λ link. link ++ Some msg ∷ []) (places_empty now count))
 more_some {M = M} (suc count) now (t ∷ rest) at msg e a =
     let here : (b : Bool) → (t.at == now) ≡ b
     → places_of (t ∷ rest ++ record { at = at; msg = msg } ∷ []) now (suc (suc count)) ≡ places_of (t ∷ rest) now (suc count) ++ Some msg ∷ []
@@ -102,13 +102,13 @@ more_some {M = M} (suc count) now (t ∷ rest) at msg e a =
         let same : t.at ≡ now = test_true t.at now e in
         let far : now + suc count ≡ suc now + count = omega arith in
         let inside : ArriveIn (suc now) (suc now + count) rest = subst (λ to. ArriveIn (suc now) to rest) far (subst (λ at. ArriveIn (suc at) (now + suc count) rest) same a.2) in
-        places_here t (rest ++ record { at = at; msg = msg } ∷ []) now (suc count) e ∙ ap (λ line. Some t.msg ∷ line) (p inside)
-        ∙ sym (ap (λ line. line ++ Some msg ∷ []) (places_here t rest now count e))
+        places_here t (rest ++ record { at = at; msg = msg } ∷ []) now (suc count) e ∙ ap (λ link. Some t.msg ∷ link) (p inside)
+        ∙ sym (ap (λ link. link ++ Some msg ∷ []) (places_here t rest now count e))
     more_some_by count now t rest at msg a false e p q =
         let far : now + suc count ≡ suc now + count = omega arith in
         let inside : ArriveIn (suc now) (suc now + count) (t ∷ rest) = (test_false now t.at (sym_test t.at now e) a.0, omega (arith, a.1), subst (λ to. ArriveIn (suc t.at) to rest) far a.2) in
-        places_later t (rest ++ record { at = at; msg = msg } ∷ []) now (suc count) e ∙ ap (λ line. None ∷ line) (q inside)
-        ∙ sym (ap (λ line. line ++ Some msg ∷ []) (places_later t rest now count e))
+        places_later t (rest ++ record { at = at; msg = msg } ∷ []) now (suc count) e ∙ ap (λ link. None ∷ link) (q inside)
+        ∙ sym (ap (λ link. link ++ Some msg ∷ []) (places_later t rest now count e))
 
 -- the stretch may end later
 widened : {M : Type 0} (from to far : ℕ) (q : List (Timed M)) → to ≤ far → ArriveIn from to q → ArriveIn from far q
@@ -139,21 +139,21 @@ left {M = M} now to (t ∷ rest) l a =
 
 -- the places of what is left, without the first place
 left_places : {M : Type 0} (now count : ℕ) (q : List (Timed M)) (sent : Option M)
-    → moved (places_of q now (suc count)) sent ≡ places_of (left_after q now) (suc now) count ++ sent ∷ []
-left_places now count [] sent = ap (λ line. moved line sent) (places_empty now count)
+    → link_moved (places_of q now (suc count)) sent ≡ places_of (left_after q now) (suc now) count ++ sent ∷ []
+left_places now count [] sent = ap (λ link. link_moved link sent) (places_empty now count)
 left_places {M = M} now count (t ∷ rest) sent =
     let here : (b : Bool) → (t.at == now) ≡ b
-    → moved (places_of (t ∷ rest) now (suc count)) sent ≡ places_of (left_after (t ∷ rest) now) (suc now) count ++ sent ∷ []
+    → link_moved (places_of (t ∷ rest) now (suc count)) sent ≡ places_of (left_after (t ∷ rest) now) (suc now) count ++ sent ∷ []
     = left_places_by now count t rest sent in
     here (t.at == now) refl
   where
     left_places_by : {M : Type 0} (now count : ℕ) (t : Timed M) (rest : List (Timed M)) (sent : Option M) → (b : Bool) → (t.at == now) ≡ b
-        → moved (places_of (t ∷ rest) now (suc count)) sent ≡ places_of (left_after (t ∷ rest) now) (suc now) count ++ sent ∷ []
+        → link_moved (places_of (t ∷ rest) now (suc count)) sent ≡ places_of (left_after (t ∷ rest) now) (suc now) count ++ sent ∷ []
     left_places_by now count t rest sent true e =
-        ap (λ line. moved line sent) (places_here t rest now count e)
+        ap (λ link. link_moved link sent) (places_here t rest now count e)
         ∙ sym (ap (λ b. places_of (if b then rest else t ∷ rest) (suc now) count ++ sent ∷ []) e)
     left_places_by now count t rest sent false e =
-        ap (λ line. moved line sent) (places_later t rest now count e)
+        ap (λ link. link_moved link sent) (places_later t rest now count e)
         ∙ sym (ap (λ b. places_of (if b then rest else t ∷ rest) (suc now) count ++ sent ∷ []) e)
 
 pub stays_none : {M : Type 0} (now delay : ℕ) (q : List (Timed M)) → 1 ≤ delay → ArriveIn now (now + delay) q
@@ -170,7 +170,7 @@ stays_some now delay q msg l a =
     (left now (now + delay) q (omega (arith, l)) a))
 
 pub moved_none : {M : Type 0} (now delay : ℕ) (q : List (Timed M)) → 1 ≤ delay → ArriveIn now (now + delay) q
-    → places_of (left_after q now) (now + 1) delay ≡ moved (places_of q now delay) None
+    → places_of (left_after q now) (now + 1) delay ≡ link_moved (places_of q now delay) None
 moved_none now zero q l a = absurd (omega (arith, l))
 moved_none now (suc count) q l a =
     let inside : ArriveIn (suc now) (suc now + count) (left_after q now)
@@ -179,7 +179,7 @@ moved_none now (suc count) q l a =
     ∙ more_none count (suc now) (left_after q now) inside ∙ sym (left_places now count q None)
 
 pub moved_some : {M : Type 0} (now delay : ℕ) (q : List (Timed M)) (msg : M) → 1 ≤ delay → ArriveIn now (now + delay) q
-    → places_of (left_after q now ++ record { at = now + delay; msg = msg } ∷ []) (now + 1) delay ≡ moved (places_of q now delay) (Some msg)
+    → places_of (left_after q now ++ record { at = now + delay; msg = msg } ∷ []) (now + 1) delay ≡ link_moved (places_of q now delay) (Some msg)
 moved_some now zero q msg l a = absurd (omega (arith, l))
 moved_some now (suc count) q msg l a =
     let inside : ArriveIn (suc now) (suc now + count) (left_after q now)
@@ -187,20 +187,20 @@ moved_some now (suc count) q msg l a =
     ap (λ from. places_of (left_after q now ++ record { at = now + suc count; msg = msg } ∷ []) from (suc count)) (add-one now)
     ∙ more_some count (suc now) (left_after q now) (now + suc count) msg (omega arith) inside ∙ sym (left_places now count q (Some msg))
 
-pub arriving_first : {M : Type 0} (now delay : ℕ) (q : List (Timed M)) → 1 ≤ delay → arriving_of q now ≡ first_of (places_of q now delay)
+pub arriving_first : {M : Type 0} (now delay : ℕ) (q : List (Timed M)) → 1 ≤ delay → arriving_of q now ≡ link_first (places_of q now delay)
 arriving_first now zero q l = absurd (omega (arith, l))
-arriving_first now (suc count) [] l = sym (ap first_of (places_empty now count))
+arriving_first now (suc count) [] l = sym (ap link_first (places_empty now count))
 arriving_first {M = M} now (suc count) (t ∷ rest) l =
-    let here : (b : Bool) → (t.at == now) ≡ b → arriving_of (t ∷ rest) now ≡ first_of (places_of (t ∷ rest) now (suc count))
+    let here : (b : Bool) → (t.at == now) ≡ b → arriving_of (t ∷ rest) now ≡ link_first (places_of (t ∷ rest) now (suc count))
     = arriving_by now count t rest in
     here (t.at == now) refl
   where
     arriving_by : {M : Type 0} (now count : ℕ) (t : Timed M) (rest : List (Timed M)) → (b : Bool) → (t.at == now) ≡ b
-        → arriving_of (t ∷ rest) now ≡ first_of (places_of (t ∷ rest) now (suc count))
+        → arriving_of (t ∷ rest) now ≡ link_first (places_of (t ∷ rest) now (suc count))
     arriving_by now count t rest true e =
-        ap (λ b. if b then Some t.msg else None) e ∙ sym (ap first_of (places_here t rest now count e))
+        ap (λ b. if b then Some t.msg else None) e ∙ sym (ap link_first (places_here t rest now count e))
     arriving_by now count t rest false e =
-        ap (λ b. if b then Some t.msg else None) e ∙ sym (ap first_of (places_later t rest now count e))
+        ap (λ b. if b then Some t.msg else None) e ∙ sym (ap link_first (places_later t rest now count e))
 
 -- at most one message a cycle
 few : {M : Type 0} (from to : ℕ) (q : List (Timed M)) → ArriveIn from to q → length q + from ≤ to

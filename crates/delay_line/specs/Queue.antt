@@ -1,7 +1,7 @@
--- Messages on their way, as a queue by their cycles of arrival, and as the places of a delay line.
+-- Messages on their way, as a queue by their cycles of arrival, and as the places of a link.
 use Rattle.std.specs.Prelude.{◌==◌, ℕ, zero, suc, ◌<◌, ◌≤◌, List, [], ◌∷◌, Option, Some, None, if◌then◌else◌, replicate}
-use Rattle.soc_words.specs.Line.{moved}
-use Rattle.delay_line.specs.declared.line.Timed.{Timed}
+use Rattle.soc_words.specs.Link.{link_moved}
+use Rattle.delay_line.specs.declared.link.Timed.{Timed}
 
 -- the places of the cycles from `now` on, `count` of them, of a queue in the order of arrival
 unfoldable pub places_of : {M : Type 0} → List (Timed M) → ℕ → ℕ → List (Option M)
@@ -25,15 +25,15 @@ abbrev pub left_after : {M : Type 0} → List (Timed M) → ℕ → List (Timed 
 left_after [] now = []
 left_after (t ∷ rest) now = if t.at == now then rest else t ∷ rest
 
--- a delay line: the cycle that is next to come, and a place for each cycle of the delay
+-- a link: the cycle that is next to come, and a place for each cycle of the delay
 pub record Flow (M : Type 0) : Type 0 where
   pub cycle : ℕ
   pub places : List (Option M)
 
--- the line after a cycle in which `sent` was sent
+-- the link after a cycle in which `sent` was sent
 abbrev pub flowed : {M : Type 0} → Flow M → Option M → Flow M
-flowed f sent = record { cycle = suc f.cycle; places = moved f.places sent }
+flowed f sent = record { cycle = suc f.cycle; places = link_moved f.places sent }
 
--- a line with nothing on its way
-unfoldable pub empty_line : {M : Type 0} → ℕ → List (Option M)
-empty_line delay = replicate delay None
+-- a link with nothing on its way
+unfoldable pub empty_link : {M : Type 0} → ℕ → List (Option M)
+empty_link delay = replicate delay None

@@ -1,9 +1,9 @@
 //! Links of a fixed delay: what is sent in a cycle arrives that many cycles later.
 #![tactic(auto)]
 
-pub mod line;
+pub mod link;
 
-pub use line::DelayLine;
+pub use link::DelayLine;
 
 #[cfg(test)]
 mod tests;

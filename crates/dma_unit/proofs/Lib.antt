@@ -1,2 +1,2 @@
 pub mod Copying
-pub mod Registers
+pub mod Stores

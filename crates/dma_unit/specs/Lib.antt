@@ -1,3 +1,3 @@
-pub mod Copier
+pub mod DmaRegisters
 pub mod Copying
-pub mod Registers
+pub mod Stores

@@ -1,13 +1,13 @@
-//! The copier's registers and its accesses.
+//! The DMA controller's registers and its accesses.
 ghost use Rattle.std.specs.Prelude.{◌≡◌, ◌⊎◌, IsSome, IsNone, true, false, if◌then◌else◌};
-ghost use Rattle.dma_unit.specs.Copier.{address_after, state_before};
+ghost use Rattle.dma_unit.specs.DmaRegisters.{address_after, state_before};
 
 use crate::state::DmaState;
 use chip_base::bits::bit_if;
 use soc_bus::{BusFault, Request, Width};
 use std::marker::Model;
 
-/// The registers of the copier, and the copy under way.
+/// The registers of the DMA controller, and the copy under way.
 ///
 /// A copy moves COUNT words, one access to the bus at each grant: it reads a word at SRC, then writes it at DST. No call
 /// takes memory.
@@ -26,9 +26,9 @@ pub struct Dma {
 
 impl Model for Dma {
     ghost use Rattle.std.specs.Prelude.{◌≡◌, ◌<◌, ◌^◌, true};
-    ghost use Rattle.dma_unit.specs.Copier.{Copier, is_busy};
+    ghost use Rattle.dma_unit.specs.DmaRegisters.{DmaRegisters, is_busy};
 
-    ghost Value = { Copier };
+    ghost Value = { DmaRegisters };
 
     ghost view = { λ d. record { interrupt = d.interrupt; source_fixed = d.source_fixed; destination_fixed = d.destination_fixed; state = d.state; source = d.source; destination = d.destination; count = d.count; fault = d.fault; word = d.word } };
 
@@ -58,13 +58,13 @@ fn next_word(count: u16) -> DmaState
 }
 
 impl Dma {
-    ghost use Rattle.dma_unit.specs.Copier.{reset_copier, control_of, loaded_word, with_control, stored, stored_at_rest, wanted, word_read, word_written, refused_at, granted_with, line_of, is_busy};
+    ghost use Rattle.dma_unit.specs.DmaRegisters.{dma_reset, dma_control, dma_word, dma_control_stored, dma_stored, stored_at_rest, dma_wanted, word_read, word_written, refused_at, dma_granted, dma_line, is_busy};
     ghost use Rattle.dma_unit.specs.Copying.{MovesByOne, Copies};
-    ghost use Rattle.dma_unit.specs.Registers.{StoresWord};
+    ghost use Rattle.dma_unit.specs.Stores.{StoresWord};
 
     /// The reset state: no copy, and all registers 0.
     pub fn new() -> Dma
-        ensures { result ≡ reset_copier }
+        ensures { result ≡ dma_reset }
     {
         Dma {
             interrupt: false,
@@ -87,7 +87,7 @@ impl Dma {
     }
 
     fn control(&self) -> u32
-        ensures { result ≡ control_of self.now }
+        ensures { result ≡ dma_control self.now }
     {
         bit_if(0, self.state.is_busy())
             + bit_if(1, self.interrupt)
@@ -100,7 +100,7 @@ impl Dma {
     /// Loads the register at an offset: CTRL 0, SRC 4, DST 8, COUNT 12, FAULT 16.
     pub fn load(&self, reg: u8) -> u32
         requires register { (reg ≡ 0) ⊎ (reg ≡ 4) ⊎ (reg ≡ 8) ⊎ (reg ≡ 12) ⊎ (reg ≡ 16) }
-        ensures { result ≡ loaded_word self.now reg }
+        ensures { result ≡ dma_word self.now reg }
     {
         match reg {
             0 => self.control(),
@@ -112,7 +112,7 @@ impl Dma {
     }
 
     fn store_control(&mut self, word: u32)
-        ensures { self.new ≡ with_control self.old word }
+        ensures { self.new ≡ dma_control_stored self.old word }
     {
         self.interrupt = word / 2 % 2 == 1;
         self.source_fixed = word / 4 % 2 == 1;
@@ -139,10 +139,10 @@ impl Dma {
 
     /// Stores a word to the register at an offset, as at `load`. It is ignored while a copy is under way, and at FAULT.
     /// A store to CTRL with bit 0 starts a copy.
-    #[tactic(auto, using(crate::proofs::Registers::stores))]
+    #[tactic(auto, using(crate::proofs::Stores::stores))]
     pub fn store(&mut self, reg: u8, word: u32)
         requires register { (reg ≡ 0) ⊎ (reg ≡ 4) ⊎ (reg ≡ 8) ⊎ (reg ≡ 12) ⊎ (reg ≡ 16) }
-        ensures registers { self.new ≡ stored self.old reg word }
+        ensures registers { self.new ≡ dma_stored self.old reg word }
         ensures words { StoresWord self.old reg word self.new }
         ensures copy { Copies self.new }
     {
@@ -153,7 +153,7 @@ impl Dma {
 
     /// The access that the copy wants. None exactly where no copy is under way.
     pub fn want(&self) -> Option<Request>
-        ensures access { result ≡ wanted self.now }
+        ensures access { result ≡ dma_wanted self.now }
         ensures none { IsNone result → is_busy self.now.state ≡ false }
         ensures rest { is_busy self.now.state ≡ false → IsNone result }
     {
@@ -200,8 +200,8 @@ impl Dma {
     /// Takes the answer to the access that the copy wants. A refused access ends the copy and leaves its address in FAULT.
     #[tactic(auto, using(crate::proofs::Copying::moves))]
     pub fn granted(&mut self, answer: Result<u32, BusFault>)
-        requires wants { IsSome (wanted self.old) }
-        ensures copier { self.new ≡ granted_with self.old answer }
+        requires wants { IsSome (dma_wanted self.old) }
+        ensures registers { self.new ≡ dma_granted self.old answer }
         ensures progress { MovesByOne self.old answer self.new }
         ensures copy { Copies self.new }
     {
@@ -220,7 +220,7 @@ impl Dma {
 
     /// Whether the interrupt line is high: a copy ended or was refused, and interrupts are enabled.
     pub fn line(&self) -> bool
-        ensures { result ≡ line_of self.now }
+        ensures { result ≡ dma_line self.now }
     {
         self.interrupt && (self.state == DmaState::Done || self.state == DmaState::Fault)
     }

@@ -1,4 +1,4 @@
-//! The copier of words from one address range to another.
+//! The DMA controller: copies words from one address range to another.
 #![tactic(auto)]
 
 pub mod dma;

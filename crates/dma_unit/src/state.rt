@@ -17,7 +17,7 @@ pub enum DmaState {
 }
 
 impl DmaState {
-    ghost use Rattle.dma_unit.specs.Copier.{is_busy};
+    ghost use Rattle.dma_unit.specs.DmaRegisters.{is_busy};
 
     /// Whether a copy is under way.
     pub fn is_busy(self) -> bool

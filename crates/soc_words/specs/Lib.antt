@@ -1,4 +1,4 @@
 pub mod Causes
-pub mod Line
+pub mod Link
 pub mod Text
 pub mod Word

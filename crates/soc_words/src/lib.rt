@@ -1,2 +1,2 @@
-//! Definitions that the contracts of several crates share: words, counts of faults, texts and delay lines.
+//! Definitions that the contracts of several crates share: words, counts of faults, texts and links.
 #![tactic(auto)]

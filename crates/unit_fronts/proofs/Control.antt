@@ -7,7 +7,7 @@ use Rattle.std.proofs.lemmas.Bool.Decides.{nat_tests}
 use Rattle.std.proofs.lemmas.Nat.Bits.{bit_at_and, same_from_bits}
 use Rattle.chip_base.specs.Bits.{bit_if}
 use Rattle.unit_fronts.specs.Control.{IsWritable, TellsControl, writable}
-use Rattle.unit_fronts.specs.Port.{Port, control_of, has_received}
+use Rattle.unit_fronts.specs.SerialRegisters.{SerialRegisters, serial_control, has_received}
 
 -- the part that a store keeps has the writable bits alone
 pub writable_part : (word : ℕ) → IsWritable (bit_and word writable)
@@ -100,7 +100,7 @@ has_bits kept a b c d k ha hb hc hd =
       below_overrun = omega (arith, high, ha, hb, hc, hd);
     }
 
-sum_same : (s : Port) → control_of s ≡ sum_of s.kept (digit (has_received s)) (digit (s.credits == 0)) (digit s.overrun) (digit (nat_lt s.credits 16))
+sum_same : (s : SerialRegisters) → serial_control s ≡ sum_of s.kept (digit (has_received s)) (digit (s.credits == 0)) (digit s.overrun) (digit (nat_lt s.credits 16))
 sum_same s =
     let a : bit_if 16 (has_received s) ≡ 2 ^ 16 * digit (has_received s) = bit_of 16 (has_received s) in
     let b : bit_if 21 (s.credits == 0) ≡ 2 ^ 21 * digit (s.credits == 0) = bit_of 21 (s.credits == 0) in
@@ -108,10 +108,10 @@ sum_same s =
     let d : bit_if 31 (nat_lt s.credits 16) ≡ 2 ^ 31 * digit (nat_lt s.credits 16) = bit_of 31 (nat_lt s.credits 16) in
     rw (a, b, c, d) refl
 
-abbrev HasBitsOf : Port → ℕ → Type 0
+abbrev HasBitsOf : SerialRegisters → ℕ → Type 0
 HasBitsOf s word = HasBits s.kept (digit (has_received s)) (digit (s.credits == 0)) (digit s.overrun) (digit (nat_lt s.credits 16)) word
 
-tells_bits : (s : Port) (word : ℕ) → HasBitsOf s word → TellsControl s word
+tells_bits : (s : SerialRegisters) (word : ℕ) → HasBitsOf s word → TellsControl s word
 tells_bits s word h = record {
   enable = h.enable;
   prescaler = h.prescaler;
@@ -127,7 +127,7 @@ tells_bits s word h = record {
 }
 
 -- what a load of CTRL gives tells each bit
-pub tells_control : (s : Port) (word : ℕ) → word ≡ control_of s → IsWritable s.kept → s.kept < 2 ^ 23 → TellsControl s word
+pub tells_control : (s : SerialRegisters) (word : ℕ) → word ≡ serial_control s → IsWritable s.kept → s.kept < 2 ^ 23 → TellsControl s word
 tells_control s word e kept below =
     tells_bits s word (subst (λ w. HasBitsOf s w) (sym (e ∙ sum_same s))
     (has_bits s.kept _ _ _ _ (lies_apart s.kept kept below) (digit_below (has_received s)) (digit_below (s.credits == 0)) (digit_below s.overrun)

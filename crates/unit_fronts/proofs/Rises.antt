@@ -5,7 +5,7 @@ use Rattle.std.proofs.lemmas.Nat.Bits.{bit_at_and, bit_at_not, bit_at_or}
 use Rattle.std.specs.Int.{bit_at, bit_not, w32}
 use Rattle.chip_base.specs.declared.message.Up.{Up}
 use Rattle.unit_fronts.specs.Owed.{is_open_at}
-use Rattle.unit_fronts.specs.GpioFront.{PinRegisters, rises, heard}
+use Rattle.unit_fronts.specs.GpioFront.{GpioRegisters, rises, gpio_heard}
 use Rattle.unit_fronts.specs.GpioRises.{MarksRises}
 
 -- a bit of a word without the bits of another
@@ -14,7 +14,7 @@ pub cleared_pin : (a word pin : ℕ) → word < 2 ^ 32 → pin < 32
 cleared_pin a word pin h k = bit_at_and a (bit_not w32 word) pin ∙ ap (min (bit_at a pin)) (bit_at_not w32 word pin h k)
 
 -- what a word from the unit does to each pin
-pub marks_heard : (s : PinRegisters) (up : Up) (new : PinRegisters) → new ≡ heard s up.word → up.done ≡ false → up.has ≡ true → is_open_at s.owed ≡ true
+pub marks_heard : (s : GpioRegisters) (up : Up) (new : GpioRegisters) → new ≡ gpio_heard s up.word → up.done ≡ false → up.has ≡ true → is_open_at s.owed ≡ true
     → s.inputs < 2 ^ 32 → MarksRises s up new
 marks_heard s up new e d w o h = rw e record {
   pending = λ x y z pin k.

@@ -1,7 +1,7 @@
 -- What a load of CTRL tells of a front.
 use Rattle.std.specs.Prelude.{◌≡◌, ◌<◌, ◌↔◌, ℕ, ◌/◌, ◌%◌, ◌^◌, true, bit_and, length}
 use Rattle.std.specs.Int.{bit_at}
-use Rattle.unit_fronts.specs.Port.{Port}
+use Rattle.unit_fronts.specs.SerialRegisters.{SerialRegisters}
 
 -- the bits of CTRL that a store may write: enable (0), prescaler (3 to 5), baud (6 to 15) and interrupt enable (22)
 abbrev pub writable : ℕ
@@ -12,7 +12,7 @@ abbrev pub IsWritable : ℕ → Type 0
 IsWritable word = bit_and word writable ≡ word
 
 -- the word that a load of CTRL gives, bit by bit
-pub record TellsControl (front : Port) (word : ℕ) : Type 0 where
+pub record TellsControl (front : SerialRegisters) (word : ℕ) : Type 0 where
   pub enable : bit_at word 0 ≡ bit_at front.kept 0
   pub prescaler : word / 2 ^ 3 % 2 ^ 3 ≡ front.kept / 2 ^ 3 % 2 ^ 3
   pub baud : word / 2 ^ 6 % 2 ^ 10 ≡ front.kept / 2 ^ 6 % 2 ^ 10

@@ -6,7 +6,7 @@ use Rattle.chip_base.specs.declared.message.Down.TheVariants.{Set}
 use Rattle.chip_base.specs.declared.message.Up.{Up}
 use Rattle.unit_fronts.specs.Owed.{is_open_at, one_more}
 
-pub record PinRegisters : Type 0 where
+pub record GpioRegisters : Type 0 where
   -- the word that the unit said last
   pub inputs : ℕ
   -- the word that was stored last
@@ -19,62 +19,62 @@ pub record PinRegisters : Type 0 where
   pub owed : ℕ
 
 -- the reset state of a front that waits for this many answers
-abbrev pub reset_owing : ℕ → PinRegisters
-reset_owing owed = record { inputs = 0; outputs = 0; enable = 0; pending = 0; owed = owed }
+abbrev pub gpio_front_reset : ℕ → GpioRegisters
+gpio_front_reset owed = record { inputs = 0; outputs = 0; enable = 0; pending = 0; owed = owed }
 
 -- the word of a register
-abbrev pub register_of : PinRegisters → ℕ → ℕ
-register_of s reg = if reg == 0 then s.inputs else if reg == 4 then s.outputs else if reg == 8 then s.enable else s.pending
+abbrev pub gpio_register : GpioRegisters → ℕ → ℕ
+gpio_register s reg = if reg == 0 then s.inputs else if reg == 4 then s.outputs else if reg == 8 then s.enable else s.pending
 
 -- what a load of a register gives; a closed front gives 0
-abbrev pub load_word : PinRegisters → ℕ → ℕ
-load_word s reg = if is_open_at s.owed then register_of s reg else 0
+abbrev pub gpio_word : GpioRegisters → ℕ → ℕ
+gpio_word s reg = if is_open_at s.owed then gpio_register s reg else 0
 
 -- an open front after a store: IN can't be written, and PENDING loses the bits that are stored as 1
-abbrev pub written : PinRegisters → ℕ → ℕ → PinRegisters
-written s reg word =
+abbrev pub gpio_stored_open : GpioRegisters → ℕ → ℕ → GpioRegisters
+gpio_stored_open s reg word =
     if reg == 4 then record s { outputs = word }
     else if reg == 8 then record s { enable = word }
     else if reg == 12 then record s { pending = bit_and s.pending (bit_not w32 word) }
     else s
 
 -- the front after a store to a register
-abbrev pub stored : PinRegisters → ℕ → ℕ → PinRegisters
-stored s reg word = if is_open_at s.owed then written s reg word else s
+abbrev pub gpio_stored : GpioRegisters → ℕ → ℕ → GpioRegisters
+gpio_stored s reg word = if is_open_at s.owed then gpio_stored_open s reg word else s
 
 -- the message that a store sends to the unit: OUT alone sends one
-abbrev pub store_sent : PinRegisters → ℕ → ℕ → Option Down
-store_sent s reg word = if is_open_at s.owed && (reg == 4) then Some (Set 4 word) else None
+abbrev pub gpio_sent : GpioRegisters → ℕ → ℕ → Option Down
+gpio_sent s reg word = if is_open_at s.owed && (reg == 4) then Some (Set 4 word) else None
 
 -- the pins that are high in a word and were low before
 abbrev pub rises : ℕ → ℕ → ℕ
 rises before word = bit_and word (bit_not w32 before)
 
 -- the word becomes IN, and each pin that rose is pending
-abbrev pub heard : PinRegisters → ℕ → PinRegisters
-heard s word = record s { inputs = word; pending = bit_or s.pending (rises s.inputs word) }
+abbrev pub gpio_heard : GpioRegisters → ℕ → GpioRegisters
+gpio_heard s word = record s { inputs = word; pending = bit_or s.pending (rises s.inputs word) }
 
 -- an open front drops a message that says that a Reset was done
-abbrev pub arrived_open : PinRegisters → Up → PinRegisters
-arrived_open s up = if up.has && not up.done then heard s up.word else s
+abbrev pub gpio_arrived_open : GpioRegisters → Up → GpioRegisters
+gpio_arrived_open s up = if up.has && not up.done then gpio_heard s up.word else s
 
 -- an answer to a Reset came; where it opens the front, its word becomes IN, and no pin rises
-abbrev pub answered : PinRegisters → Up → PinRegisters
-answered s up =
+abbrev pub gpio_answered : GpioRegisters → Up → GpioRegisters
+gpio_answered s up =
     if is_open_at (s.owed - 1) && up.has then record s { inputs = up.word; owed = s.owed - 1 } else record s { owed = s.owed - 1 }
 
 -- a closed front hears nothing but that a Reset was done
-abbrev pub arrived_closed : PinRegisters → Up → PinRegisters
-arrived_closed s up = if up.done then answered s up else s
+abbrev pub gpio_arrived_closed : GpioRegisters → Up → GpioRegisters
+gpio_arrived_closed s up = if up.done then gpio_answered s up else s
 
 -- the front after a message from the unit
-abbrev pub arrived : PinRegisters → Up → PinRegisters
-arrived s up = if is_open_at s.owed then arrived_open s up else arrived_closed s up
+abbrev pub gpio_arrived : GpioRegisters → Up → GpioRegisters
+gpio_arrived s up = if is_open_at s.owed then gpio_arrived_open s up else gpio_arrived_closed s up
 
 -- a pin that may interrupt is pending
-abbrev pub line_of : PinRegisters → Bool
-line_of s = not (bit_and s.pending s.enable == 0)
+abbrev pub gpio_line : GpioRegisters → Bool
+gpio_line s = not (bit_and s.pending s.enable == 0)
 
 -- one answer more is owed, and all else is reset
-abbrev pub closed : PinRegisters → PinRegisters
-closed s = reset_owing (one_more s.owed)
+abbrev pub gpio_closed : GpioRegisters → GpioRegisters
+gpio_closed s = gpio_front_reset (one_more s.owed)

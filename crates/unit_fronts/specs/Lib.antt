@@ -3,6 +3,6 @@ pub mod Counts
 pub mod GpioFront
 pub mod GpioRises
 pub mod Owed
-pub mod Port
+pub mod SerialRegisters
 pub mod PwmFront
 pub mod UartFront

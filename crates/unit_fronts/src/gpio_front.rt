@@ -21,9 +21,9 @@ pub struct GpioFront {
 
 impl Model for GpioFront {
     ghost use Rattle.std.specs.Prelude.{◌<◌, ◌^◌};
-    ghost use Rattle.unit_fronts.specs.GpioFront.{PinRegisters};
+    ghost use Rattle.unit_fronts.specs.GpioFront.{GpioRegisters};
 
-    ghost Value = { PinRegisters };
+    ghost Value = { GpioRegisters };
 
     ghost view = { λ f. record { inputs = f.inputs; outputs = f.outputs; enable = f.enable; pending = f.pending; owed = f.owed } };
 
@@ -33,11 +33,11 @@ impl Model for GpioFront {
 impl GpioFront {
     ghost use Rattle.unit_fronts.specs.Owed.{is_open_at, CountsAnswers};
     ghost use Rattle.unit_fronts.specs.GpioRises.{MarksRises, ClearsStored};
-    ghost use Rattle.unit_fronts.specs.GpioFront.{reset_owing, register_of, load_word, stored, store_sent, heard, answered, arrived, line_of, closed};
+    ghost use Rattle.unit_fronts.specs.GpioFront.{gpio_front_reset, gpio_register, gpio_word, gpio_stored, gpio_sent, gpio_heard, gpio_answered, gpio_arrived, gpio_line, gpio_closed};
 
     /// The front at power-on: open, with all registers 0.
     pub fn new() -> GpioFront
-        ensures { result ≡ reset_owing 0 }
+        ensures { result ≡ gpio_front_reset 0 }
     {
         GpioFront {
             inputs: 0,
@@ -51,7 +51,7 @@ impl GpioFront {
     /// Loads the register at an offset.
     pub fn load(&mut self, reg: u8) -> u32
         requires register { (reg ≡ 0) ⊎ (reg ≡ 4) ⊎ (reg ≡ 8) ⊎ (reg ≡ 12) }
-        ensures word { result ≡ load_word self.old reg }
+        ensures word { result ≡ gpio_word self.old reg }
         ensures front { self.new ≡ self.old }
     {
         if !self.owed.is_open() {
@@ -69,8 +69,8 @@ impl GpioFront {
     /// or the register isn't OUT. A store to IN is ignored.
     pub fn store(&mut self, reg: u8, word: u32) -> Option<Down>
         requires register { (reg ≡ 0) ⊎ (reg ≡ 4) ⊎ (reg ≡ 8) ⊎ (reg ≡ 12) }
-        ensures message { result ≡ store_sent self.old reg word }
-        ensures front { self.new ≡ stored self.old reg word }
+        ensures message { result ≡ gpio_sent self.old reg word }
+        ensures front { self.new ≡ gpio_stored self.old reg word }
         ensures owed { self.new.owed ≡ self.old.owed }
         ensures cleared { ClearsStored self.old reg word self.new }
     {
@@ -90,7 +90,7 @@ impl GpioFront {
     }
 
     fn hear(&mut self, word: u32)
-        ensures { self.new ≡ heard self.old word }
+        ensures { self.new ≡ gpio_heard self.old word }
     {
         self.pending |= word & !self.inputs;
         self.inputs = word;
@@ -98,7 +98,7 @@ impl GpioFront {
 
     fn answer(&mut self, up: Up)
         requires { is_open_at self.old.owed ≡ false }
-        ensures { self.new ≡ answered self.old up }
+        ensures { self.new ≡ gpio_answered self.old up }
     {
         self.owed.answer();
         if self.owed.is_open() && up.has {
@@ -108,7 +108,7 @@ impl GpioFront {
 
     /// Takes a message from the unit.
     pub fn arrive(&mut self, up: Up)
-        ensures front { self.new ≡ arrived self.old up }
+        ensures front { self.new ≡ gpio_arrived self.old up }
         ensures owed { CountsAnswers self.old.owed up self.new.owed }
         ensures rises { MarksRises self.old up self.new }
     {
@@ -123,14 +123,14 @@ impl GpioFront {
 
     /// Whether the front's interrupt line is high: a bit of PENDING is set whose bit of ENABLE is set.
     pub fn line(&self) -> bool
-        ensures { result ≡ line_of self.now }
+        ensures { result ≡ gpio_line self.now }
     {
         self.pending & self.enable != 0
     }
 
     /// Closes the front. All but the count of owed answers takes its reset state.
     pub fn close(&mut self)
-        ensures { self.new ≡ closed self.old }
+        ensures { self.new ≡ gpio_closed self.old }
     {
         self.inputs = 0;
         self.outputs = 0;

@@ -6,7 +6,7 @@
 
 pub mod gpio_front;
 mod owed;
-mod port;
+mod serial_registers;
 pub mod pwm_front;
 #[cfg(test)]
 mod tests;

@@ -21,9 +21,9 @@ pub struct PwmFront {
 
 impl Model for PwmFront {
     ghost use Rattle.std.specs.Prelude.{◌≡◌, length};
-    ghost use Rattle.unit_fronts.specs.PwmFront.{DutyRegisters};
+    ghost use Rattle.unit_fronts.specs.PwmFront.{PwmRegisters};
 
-    ghost Value = { DutyRegisters };
+    ghost Value = { PwmRegisters };
 
     ghost view = { λ f. record { control = f.control; duties = f.duties; owed = f.owed } };
 
@@ -32,11 +32,11 @@ impl Model for PwmFront {
 
 impl PwmFront {
     ghost use Rattle.unit_fronts.specs.Owed.{is_open_at, CountsAnswers};
-    ghost use Rattle.unit_fronts.specs.PwmFront.{reset_owing, load_word, stored, store_sent, arrived, closed};
+    ghost use Rattle.unit_fronts.specs.PwmFront.{pwm_front_reset, pwm_word, pwm_stored, pwm_sent, pwm_arrived, pwm_closed};
 
     /// The front at power-on: open, with all registers 0.
     pub fn new() -> PwmFront
-        ensures { result ≡ reset_owing 0 }
+        ensures { result ≡ pwm_front_reset 0 }
     {
         PwmFront {
             control: 0,
@@ -48,7 +48,7 @@ impl PwmFront {
     /// Loads the register at an offset.
     pub fn load(&mut self, reg: u8) -> u32
         requires register { (reg ≡ 0) ⊎ (reg ≡ 4) ⊎ (reg ≡ 8) ⊎ (reg ≡ 12) ⊎ (reg ≡ 16) }
-        ensures word { result ≡ load_word self.old reg }
+        ensures word { result ≡ pwm_word self.old reg }
         ensures front { self.new ≡ self.old }
     {
         if !self.owed.is_open() {
@@ -63,8 +63,8 @@ impl PwmFront {
     /// Stores a word to the register at an offset and gives the message for the unit. None exactly where the front is closed.
     pub fn store(&mut self, reg: u8, word: u32) -> Option<Down>
         requires register { (reg ≡ 0) ⊎ (reg ≡ 4) ⊎ (reg ≡ 8) ⊎ (reg ≡ 12) ⊎ (reg ≡ 16) }
-        ensures message { result ≡ store_sent self.old reg word }
-        ensures front { self.new ≡ stored self.old reg word }
+        ensures message { result ≡ pwm_sent self.old reg word }
+        ensures front { self.new ≡ pwm_stored self.old reg word }
         ensures owed { self.new.owed ≡ self.old.owed }
     {
         if !self.owed.is_open() {
@@ -84,7 +84,7 @@ impl PwmFront {
 
     /// Takes a message from the unit.
     pub fn arrive(&mut self, up: Up)
-        ensures front { self.new ≡ arrived self.old up }
+        ensures front { self.new ≡ pwm_arrived self.old up }
         ensures owed { CountsAnswers self.old.owed up self.new.owed }
     {
         if up.done && !self.owed.is_open() {
@@ -101,7 +101,7 @@ impl PwmFront {
 
     /// Closes the front. All but the count of owed answers takes its reset state.
     pub fn close(&mut self)
-        ensures { self.new ≡ closed self.old }
+        ensures { self.new ≡ pwm_closed self.old }
     {
         self.control = 0;
         self.duties = [0; 4];

@@ -1,7 +1,7 @@
 //! The front of a UART.
 ghost use Rattle.std.specs.Prelude.{◌≡◌, ◌≤◌, ◌⊎◌, None, true};
 
-use crate::port::Port;
+use crate::serial_registers::SerialRegisters;
 use chip_base::{Down, Up};
 use std::marker::Model;
 
@@ -14,48 +14,48 @@ const WRITABLE: u32 = 0x0040_fff9;
 /// that says that a Reset was done.
 #[derive(Drop)]
 pub struct UartFront {
-    port: Port,
+    registers: SerialRegisters,
 }
 
 impl Model for UartFront {
     ghost use Rattle.std.specs.Prelude.{◌≤◌};
-    ghost use Rattle.unit_fronts.specs.Port.{Port};
+    ghost use Rattle.unit_fronts.specs.SerialRegisters.{SerialRegisters};
 
-    ghost Value = { Port };
+    ghost Value = { SerialRegisters };
 
-    ghost view = { λ f. f.port };
+    ghost view = { λ f. f.registers };
 
-    ghost invariant = { λ f. f.port.credits ≤ 16 };
+    ghost invariant = { λ f. f.registers.credits ≤ 16 };
 }
 
 impl UartFront {
     ghost use Rattle.chip_base.specs.Messages.{at_data};
     ghost use Rattle.unit_fronts.specs.Control.{TellsControl};
     ghost use Rattle.unit_fronts.specs.Counts.{SpendsCredits, HearsUnit};
-    ghost use Rattle.unit_fronts.specs.Port.{reset_owing, is_open_of, arrived, line_of, closed};
-    ghost use Rattle.unit_fronts.specs.UartFront.{load_word, loaded, stored, store_sent};
+    ghost use Rattle.unit_fronts.specs.SerialRegisters.{serial_front_reset, serial_is_open, serial_arrived, serial_line, serial_closed};
+    ghost use Rattle.unit_fronts.specs.UartFront.{serial_word, serial_loaded, serial_stored, serial_sent};
 
     /// The front at power-on: open, with sixteen credits.
     pub fn new() -> UartFront
-        ensures { result ≡ reset_owing 0 }
+        ensures { result ≡ serial_front_reset 0 }
     {
-        UartFront { port: Port::new() }
+        UartFront { registers: SerialRegisters::new() }
     }
 
     /// Loads the register at an offset. A load of DATA takes the oldest received byte, or gives 0.
     pub fn load(&mut self, reg: u8) -> u32
         requires register { (reg ≡ 0) ⊎ (reg ≡ 4) }
-        ensures word { result ≡ load_word self.old reg }
-        ensures front { self.new ≡ loaded self.old reg }
-        ensures control { is_open_of self.old ≡ true → reg ≡ 0 → TellsControl self.old result }
+        ensures word { result ≡ serial_word self.old reg }
+        ensures front { self.new ≡ serial_loaded self.old reg }
+        ensures control { serial_is_open self.old ≡ true → reg ≡ 0 → TellsControl self.old result }
         ensures credits { SpendsCredits at_data self.old None self.new }
     {
-        if !self.port.is_open() {
+        if !self.registers.is_open() {
             0
         } else if reg == 0 {
-            self.port.control()
+            self.registers.control()
         } else {
-            self.port.take()
+            self.registers.take()
         }
     }
 
@@ -64,19 +64,19 @@ impl UartFront {
     #[tactic(auto, using(crate::proofs::Control::writable_part))]
     pub fn store(&mut self, reg: u8, word: u32) -> Option<Down>
         requires register { (reg ≡ 0) ⊎ (reg ≡ 4) }
-        ensures message { result ≡ store_sent self.old reg word }
-        ensures front { self.new ≡ stored self.old reg word }
+        ensures message { result ≡ serial_sent self.old reg word }
+        ensures front { self.new ≡ serial_stored self.old reg word }
         ensures credits { SpendsCredits at_data self.old result self.new }
     {
-        if !self.port.is_open() {
+        if !self.registers.is_open() {
             return None;
         }
         if reg == 0 {
             let kept = word & WRITABLE;
-            self.port.keep(kept);
+            self.registers.keep(kept);
             return Some(Down::Set { reg: 0, word: kept });
         }
-        if self.port.spend() {
+        if self.registers.spend() {
             Some(Down::Set {
                 reg: 4,
                 word: word % 256,
@@ -90,30 +90,30 @@ impl UartFront {
     /// unless it has sixteen, and the received byte, which is lost where sixteen wait. A closed front counts the answers to its
     /// Resets, and takes nothing else.
     pub fn arrive(&mut self, up: Up)
-        ensures front { self.new ≡ arrived self.old up }
+        ensures front { self.new ≡ serial_arrived self.old up }
         ensures credits { HearsUnit self.old up self.new }
     {
-        self.port.arrive(up);
+        self.registers.arrive(up);
     }
 
     /// Whether the front's interrupt line is high: a received byte waits, and interrupts are enabled.
     pub fn line(&self) -> bool
-        ensures { result ≡ line_of self.now }
+        ensures { result ≡ serial_line self.now }
     {
-        self.port.line()
+        self.registers.line()
     }
 
     /// Closes the front. All but the count of owed answers takes its reset state.
     pub fn close(&mut self)
-        ensures { self.new ≡ closed self.old }
+        ensures { self.new ≡ serial_closed self.old }
     {
-        self.port.close();
+        self.registers.close();
     }
 
     /// Whether every Reset was answered.
     pub fn is_open(&self) -> bool
-        ensures { result ≡ is_open_of self.now }
+        ensures { result ≡ serial_is_open self.now }
     {
-        self.port.is_open()
+        self.registers.is_open()
     }
 }

@@ -3,8 +3,8 @@ use Rattle.std.proofs.Common.{◌≡◌, ◌≢◌, ℕ, ◌%◌, ◌^◌, Bool,
 use Rattle.std.specs.Prelude.{◌==◌}
 use Rattle.std.proofs.lemmas.Bool.{true≢false, false≢true}
 use Rattle.std.proofs.lemmas.Bool.Decides.{nat_tests}
-use Rattle.dma_unit.specs.Copier.{Copier, is_busy, stored, stored_at_rest}
-use Rattle.dma_unit.specs.Registers.{SetsAt, SetsRegister, StoresWord}
+use Rattle.dma_unit.specs.DmaRegisters.{DmaRegisters, is_busy, dma_stored, stored_at_rest}
+use Rattle.dma_unit.specs.Stores.{SetsAt, SetsRegister, StoresWord}
 
 same_as : (reg offset : ℕ) → (reg == offset) ≡ true → reg ≡ offset
 same_as reg offset e = grind (arith, nat_tests)
@@ -21,7 +21,7 @@ leaves reg offset word before e = record { there = λ same. absurd (e same); els
 apart : (reg here offset : ℕ) → (reg == here) ≡ true → here ≢ offset → reg ≢ offset
 apart reg here offset e n same = n (sym (same_as reg here e) ∙ same)
 
-sets_register : (c : Copier) (reg word : ℕ) (b0 b4 b8 b12 : Bool) → (reg == 0) ≡ b0 → (reg == 4) ≡ b4 → (reg == 8) ≡ b8 → (reg == 12) ≡ b12
+sets_register : (c : DmaRegisters) (reg word : ℕ) (b0 b4 b8 b12 : Bool) → (reg == 0) ≡ b0 → (reg == 4) ≡ b4 → (reg == 8) ≡ b8 → (reg == 12) ≡ b12
     → SetsRegister c reg word (stored_at_rest c reg word)
 sets_register c reg word true b4 b8 b12 p q r t = rw p record {
   source = leaves reg 4 word _ (apart reg 0 4 p (omega arith));
@@ -54,12 +54,12 @@ sets_register c reg word false false false false p q r t = rw (p, q, r, t) recor
   fault = refl;
 }
 
-stores_by : (c : Copier) (reg word : ℕ) (busy : Bool) → is_busy c.state ≡ busy → StoresWord c reg word (stored c reg word)
+stores_by : (c : DmaRegisters) (reg word : ℕ) (busy : Bool) → is_busy c.state ≡ busy → StoresWord c reg word (dma_stored c reg word)
 stores_by c reg word true p = record { busy = λ b. rw p refl; at_rest = λ b. absurd (true≢false (sym p ∙ b)) }
 stores_by c reg word false p = record {
   busy = λ b. absurd (false≢true (sym p ∙ b));
   at_rest = λ b. rw p (sets_register c reg word _ _ _ _ refl refl refl refl);
 }
 
-pub stores : (c : Copier) (reg word : ℕ) (new : Copier) → new ≡ stored c reg word → StoresWord c reg word new
+pub stores : (c : DmaRegisters) (reg word : ℕ) (new : DmaRegisters) → new ≡ dma_stored c reg word → StoresWord c reg word new
 stores c reg word new e = subst (λ n. StoresWord c reg word n) (sym e) (stores_by c reg word _ refl)

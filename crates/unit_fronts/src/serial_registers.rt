@@ -9,7 +9,7 @@ use std::marker::Model;
 
 /// Control bits, received entries, credits and owed answers of a front.
 #[derive(Drop)]
-pub struct Port {
+pub struct SerialRegisters {
     kept: u32,
     overrun: bool,
     received: ArrayVec<u32, 16>,
@@ -17,28 +17,28 @@ pub struct Port {
     owed: Owed,
 }
 
-impl Model for Port {
+impl Model for SerialRegisters {
     ghost use Rattle.std.specs.Prelude.{◌<◌, ◌≤◌, ◌^◌};
     ghost use Rattle.arrayvec.specs.ArrayVec.{array_vec_len};
     ghost use Rattle.unit_fronts.specs.Control.{IsWritable};
-    ghost use Rattle.unit_fronts.specs.Port.{Port};
+    ghost use Rattle.unit_fronts.specs.SerialRegisters.{SerialRegisters};
 
-    ghost Value = { Port };
+    ghost Value = { SerialRegisters };
 
     ghost view = { λ p. record { kept = p.kept; overrun = p.overrun; received = p.received.items; credits = p.credits; owed = p.owed } };
 
     ghost invariant = { λ p. (IsWritable p.kept) × (p.kept < 2 ^ 23) × (array_vec_len p.received ≤ 16) × (p.credits ≤ 16) };
 }
 
-impl Port {
+impl SerialRegisters {
     ghost use Rattle.unit_fronts.specs.Control.{IsWritable, TellsControl};
-    ghost use Rattle.unit_fronts.specs.Port.{reset_owing, is_open_of, has_received, control_of, oldest, taken, with_control, spent, credited, received_by, arrived_open, arrived_closed, arrived, line_of, closed};
+    ghost use Rattle.unit_fronts.specs.SerialRegisters.{serial_front_reset, serial_is_open, has_received, serial_control, oldest_received, without_oldest, serial_control_stored, spent, credited, received_by, serial_arrived_open, serial_arrived_closed, serial_arrived, serial_line, serial_closed};
 
     /// The state at power-on.
-    pub fn new() -> Port
-        ensures { result ≡ reset_owing 0 }
+    pub fn new() -> SerialRegisters
+        ensures { result ≡ serial_front_reset 0 }
     {
-        Port {
+        SerialRegisters {
             kept: 0,
             overrun: false,
             received: ArrayVec::new(),
@@ -49,7 +49,7 @@ impl Port {
 
     /// Whether the front waits for no answer.
     pub fn is_open(&self) -> bool
-        ensures { result ≡ is_open_of self.now }
+        ensures { result ≡ serial_is_open self.now }
     {
         self.owed.is_open()
     }
@@ -62,7 +62,7 @@ impl Port {
 
     /// CTRL as a load gives it.
     pub fn control(&self) -> u32
-        ensures word { result ≡ control_of self.now }
+        ensures word { result ≡ serial_control self.now }
         ensures bits { TellsControl self.now result }
     {
         self.kept
@@ -76,7 +76,7 @@ impl Port {
     pub fn keep(&mut self, kept: u32)
         requires writable { IsWritable kept }
         requires below { kept < 2 ^ 23 }
-        ensures { self.new ≡ with_control self.old kept }
+        ensures { self.new ≡ serial_control_stored self.old kept }
     {
         self.kept = kept;
         self.overrun = false;
@@ -84,8 +84,8 @@ impl Port {
 
     /// Takes the oldest received entry; 0 where there is none.
     pub fn take(&mut self) -> u32
-        ensures word { result ≡ oldest self.old }
-        ensures rest { self.new ≡ taken self.old }
+        ensures word { result ≡ oldest_received self.old }
+        ensures rest { self.new ≡ without_oldest self.old }
     {
         if self.received.is_empty() {
             0
@@ -128,7 +128,7 @@ impl Port {
     }
 
     fn arrive_open(&mut self, up: Up)
-        ensures { self.new ≡ arrived_open self.old up }
+        ensures { self.new ≡ serial_arrived_open self.old up }
     {
         if !up.done {
             self.credit(up.credit);
@@ -138,7 +138,7 @@ impl Port {
 
     /// Takes a message from the unit.
     pub fn arrive(&mut self, up: Up)
-        ensures { self.new ≡ arrived self.old up }
+        ensures { self.new ≡ serial_arrived self.old up }
     {
         if self.is_open() {
             self.arrive_open(up);
@@ -149,14 +149,14 @@ impl Port {
 
     /// The interrupt line.
     pub fn line(&self) -> bool
-        ensures { result ≡ line_of self.now }
+        ensures { result ≡ serial_line self.now }
     {
         self.kept / (1 << 22) % 2 == 1 && self.has_received()
     }
 
     /// Resets the front, which then waits for one answer more.
     pub fn close(&mut self)
-        ensures { self.new ≡ closed self.old }
+        ensures { self.new ≡ serial_closed self.old }
     {
         self.kept = 0;
         self.overrun = false;

@@ -1,9 +1,9 @@
 //! A link in one direction.
 ghost use Rattle.std.specs.Prelude.{◌≡◌, ◌+◌, ◌<◌, ◌≤◌, ◌^◌, IfOk, OnOk, Option, length};
 ghost use Rattle.std.specs.VecDeque.{deque_capacity};
-ghost use Rattle.soc_words.specs.Line.{first_of, moved};
+ghost use Rattle.soc_words.specs.Link.{link_first, link_moved};
 ghost use Rattle.delay_line.specs.Arrival.{ArrivesOnTime};
-ghost use Rattle.delay_line.specs.Queue.{Flow, arriving_of, empty_line, flowed, left_after};
+ghost use Rattle.delay_line.specs.Queue.{Flow, arriving_of, empty_link, flowed, left_after};
 
 use chip_base::{Cycle, NoMemory};
 use std::alloc::Global;
@@ -73,7 +73,7 @@ impl<M: Copy> DelayLine<M> {
     #[tactic(auto, using(crate::proofs::Places::places_of_nothing))]
     pub fn new(alloc: Global, delay: u32) -> Result<DelayLine<M>, NoMemory>
         requires { (1 ≤ delay) × (delay ≤ 4096) }
-        ensures line { IfOk result (λ l. l ≡ record { cycle = 0; places = empty_line delay }) }
+        ensures link { IfOk result (λ l. l ≡ record { cycle = 0; places = empty_link delay }) }
         ensures places { IfOk result (λ l. length l.places ≡ delay) }
     {
         let Ok(queue) = VecDeque::with_capacity(alloc, delay as usize) else {
@@ -89,7 +89,7 @@ impl<M: Copy> DelayLine<M> {
     /// The message that arrives in this cycle.
     #[tactic(auto, using(crate::proofs::Places::arriving_first))]
     pub fn arriving(&self) -> Option<M>
-        ensures { result ≡ first_of self.now.places }
+        ensures { result ≡ link_first self.now.places }
     {
         arriving_in(&self.queue, self.cycle)
     }
@@ -98,7 +98,7 @@ impl<M: Copy> DelayLine<M> {
     #[tactic(auto, using(crate::proofs::Places::stays_some, crate::proofs::Places::stays_none, crate::proofs::Places::moved_some, crate::proofs::Places::moved_none, crate::proofs::Places::room, crate::proofs::Arrival::same_places, crate::proofs::Arrival::arrives_on_time))]
     pub fn step(&mut self, sent: Option<M>)
         requires { self.old.cycle + 4096 < 2 ^ 64 }
-        ensures line { self.new ≡ flowed self.old sent }
+        ensures link { self.new ≡ flowed self.old sent }
         ensures places { length self.new.places ≡ length self.old.places }
         ensures on_time { ArrivesOnTime self.old sent }
     {

@@ -2,7 +2,7 @@ use Rattle.std.proofs.Common.{◌<◌, ◌^◌, arith, subst}
 use Rattle.std.proofs.lemmas.Grind.{common_steps}
 use Rattle.unit_fronts.specs.Control.{IsWritable}
 use Rattle.unit_fronts.proofs.Control.{tells_control}
-use Rattle.unit_fronts.proofs.port.Port.control.Goals as goal
+use Rattle.unit_fronts.proofs.serial_registers.SerialRegisters.control.Goals as goal
 
 pub returns-clause-bits : goal.returns-clause-bits
 returns-clause-bits c =
