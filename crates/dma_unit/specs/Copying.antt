@@ -1,4 +1,4 @@
--- What a copy does, access by access.
+-- A law over definitions: what a copy does, access by access.
 use Rattle.std.specs.Prelude.{◌≡◌, ◌≤◌, ℕ, ◌+◌, ◌-◌, ◌*◌, ◌%◌, ◌^◌, Bool, List, [], ◌∷◌, length, Some, Result, Ok, Err, if◌then◌else◌}
 use Rattle.soc_bus.specs.declared.access.BusFault.{BusFault}
 use Rattle.soc_bus.specs.declared.access.Request.{Request}

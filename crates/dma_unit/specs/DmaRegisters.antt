@@ -1,4 +1,4 @@
--- The DMA controller: what it keeps, its registers, and what a grant does.
+-- A definition: what the DMA controller keeps, its registers, and what a grant does.
 use Rattle.std.specs.Prelude.{ℕ, ◌+◌, ◌-◌, ◌/◌, ◌%◌, ◌^◌, ◌==◌, ◌&&◌, ◌||◌, Bool, true, false, Option, Some, None, Result, Ok, Err, if◌then◌else◌}
 use Rattle.chip_base.specs.Bits.{bit_if}
 use Rattle.soc_words.specs.Word.{wrapped_sum}

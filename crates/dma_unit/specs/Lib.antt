@@ -1,3 +1,4 @@
-pub mod DmaRegisters
+pub mod Control
 pub mod Copying
+pub mod DmaRegisters
 pub mod Stores

@@ -59,6 +59,7 @@ fn next_word(count: u16) -> DmaState
 
 impl Dma {
     ghost use Rattle.dma_unit.specs.DmaRegisters.{dma_reset, dma_control, dma_word, dma_control_stored, dma_stored, stored_at_rest, dma_wanted, word_read, word_written, refused_at, dma_granted, dma_line, is_busy};
+    ghost use Rattle.dma_unit.specs.Control.{TellsDmaControl};
     ghost use Rattle.dma_unit.specs.Copying.{MovesByOne, Copies};
     ghost use Rattle.dma_unit.specs.Stores.{StoresWord};
 
@@ -86,8 +87,10 @@ impl Dma {
         self.state
     }
 
+    #[tactic(auto, using(crate::proofs::Control::tells_control))]
     fn control(&self) -> u32
-        ensures { result ≡ dma_control self.now }
+        ensures word { result ≡ dma_control self.now }
+        ensures bits { TellsDmaControl self.now result }
     {
         bit_if(0, self.state.is_busy())
             + bit_if(1, self.interrupt)
@@ -100,7 +103,8 @@ impl Dma {
     /// Loads the register at an offset: CTRL 0, SRC 4, DST 8, COUNT 12, FAULT 16.
     pub fn load(&self, reg: u8) -> u32
         requires register { (reg ≡ 0) ⊎ (reg ≡ 4) ⊎ (reg ≡ 8) ⊎ (reg ≡ 12) ⊎ (reg ≡ 16) }
-        ensures { result ≡ dma_word self.now reg }
+        ensures word { result ≡ dma_word self.now reg }
+        ensures control { reg ≡ 0 → TellsDmaControl self.now result }
     {
         match reg {
             0 => self.control(),

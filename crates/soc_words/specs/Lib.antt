@@ -1,4 +1,5 @@
 pub mod Causes
 pub mod Link
+pub mod Registers
 pub mod Text
 pub mod Word
