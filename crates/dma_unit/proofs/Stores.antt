@@ -1,8 +1,7 @@
 -- A store sets the register at its offset, and no other.
-use Rattle.std.proofs.Common.{◌≡◌, ◌≢◌, ℕ, ◌%◌, ◌^◌, Bool, true, false, refl, sym, ◌∙◌, arith, subst}
+use Rattle.std.proofs.Common.{◌≡◌, ℕ, ◌%◌, ◌^◌, Bool, true, false, refl, sym, ◌∙◌, arith, subst}
 use Rattle.std.specs.Prelude.{◌==◌}
 use Rattle.std.proofs.lemmas.Bool.{true≢false, false≢true}
-use Rattle.std.proofs.lemmas.Bool.Decides.{nat_tests}
 use Rattle.dma_unit.specs.DmaRegisters.{DmaRegisters, is_busy, dma_stored, stored_at_rest}
 use Rattle.soc_words.proofs.Registers.{apart, leaves, other_than, same_as, sets}
 use Rattle.dma_unit.proofs.Control.{starts_copy}

@@ -1,5 +1,5 @@
 -- A law over definitions: the bits of CTRL, read and written.
-use Rattle.std.specs.Prelude.{◌≡◌, ◌≢◌, ◌<◌, ◌↔◌, ℕ, ◌/◌, ◌%◌, ◌^◌, true}
+use Rattle.std.specs.Prelude.{◌≡◌, ◌<◌, ◌↔◌, ℕ, ◌/◌, ◌%◌, ◌^◌, true}
 use Rattle.std.specs.Int.{bit_at}
 use Rattle.dma_unit.specs.declared.state.DmaState.TheVariants.{Idle, Reading, Done, Fault}
 use Rattle.dma_unit.specs.DmaRegisters.{DmaRegisters, is_busy, dma_word}

@@ -1,4 +1,4 @@
--- A link is the list of its places, each empty or with one message. The first place arrives next.
+-- A definition: a link is the list of its places, each empty or with one message. The first place arrives next.
 use Rattle.std.specs.Prelude.{List, [], ◌∷◌, ◌++◌, Option, None}
 
 -- what arrives in this cycle

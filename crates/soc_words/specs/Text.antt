@@ -1,4 +1,4 @@
--- Printed texts, as lists of their bytes.
+-- A definition: printed texts, as lists of their bytes.
 use Rattle.std.specs.Prelude.{ℕ, zero, suc, List, [], ◌∷◌, ◌++◌}
 use Rattle.std.specs.Int.{w32, to_be_bytes}
 use Rattle.hex.specs.Hex.{encode_lower}
