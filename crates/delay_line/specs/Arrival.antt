@@ -1,4 +1,4 @@
--- When what is sent over a link arrives.
+-- A law over definitions: when what is sent over a link arrives.
 use Rattle.std.specs.Prelude.{◌≡◌, ◌+◌, List, [], ◌∷◌, length, Option}
 use Rattle.soc_words.specs.Link.{link_first}
 use Rattle.delay_line.specs.Queue.{Flow, flowed}

@@ -1,4 +1,4 @@
--- Messages on their way, as a queue by their cycles of arrival, and as the places of a link.
+-- A definition, and what serves the code alone: a link by its places, and the queue of messages that keeps them.
 use Rattle.std.specs.Prelude.{◌==◌, ℕ, zero, suc, ◌<◌, ◌≤◌, List, [], ◌∷◌, Option, Some, None, if◌then◌else◌, replicate}
 use Rattle.soc_words.specs.Link.{link_moved}
 use Rattle.delay_line.specs.declared.link.Timed.{Timed}
