@@ -1,13 +1,16 @@
 -- A load of CTRL tells each of its bits, since the kept bits lie apart from the others.
-use Rattle.std.proofs.Common.{◌≡◌, ◌≤◌, ◌<◌, ◌↔◌, ℕ, ◌+◌, ◌*◌, ◌/◌, ◌%◌, ◌^◌, min, Bool, true, false, bit_and, length, cond, refl, sym, ap, ◌∙◌, arith, subst}
+use Rattle.std.proofs.Common.{◌≡◌, ◌≢◌, ◌≤◌, ◌<◌, ◌↔◌, ℕ, ◌+◌, ◌*◌, ◌/◌, ◌%◌, ◌^◌, min, Bool, true, false, bit_and, length, cond, refl, sym, ap, ◌∙◌, arith, subst}
 use Rattle.std.specs.Prelude.{◌==◌, nat_lt}
 use Rattle.std.specs.Int.{bit_at}
 use Rattle.std.proofs.lemmas.Bool.{false≢true}
 use Rattle.std.proofs.lemmas.Bool.Decides.{nat_tests}
+use Rattle.std.proofs.lemmas.Nat.{and_le_r}
 use Rattle.std.proofs.lemmas.Nat.Bits.{bit_at_and, same_from_bits}
 use Rattle.chip_base.specs.Bits.{bit_if}
-use Rattle.unit_fronts.specs.Control.{IsWritable, TellsControl, writable}
-use Rattle.unit_fronts.specs.SerialRegisters.{SerialRegisters, serial_control, has_received}
+use Rattle.soc_words.proofs.Registers.{same_as}
+use Rattle.unit_fronts.specs.Control.{IsWritable, SetsControl, TellsControl, writable}
+use Rattle.unit_fronts.specs.SerialRegisters.{SerialRegisters, serial_control, serial_is_open, has_received}
+use Rattle.unit_fronts.specs.UartFront.{serial_stored}
 
 -- the part that a store keeps has the writable bits alone
 pub writable_part : (word : ℕ) → IsWritable (bit_and word writable)
@@ -132,3 +135,74 @@ tells_control s word e kept below =
     tells_bits s word (subst (λ w. HasBitsOf s w) (sym (e ∙ sum_same s))
     (has_bits s.kept _ _ _ _ (lies_apart s.kept kept below) (digit_below (has_received s)) (digit_below (s.credits == 0)) (digit_below s.overrun)
     (digit_below (nat_lt s.credits 16))))
+
+-- a kept bit is the bit that was stored
+kept_bit : (word place : ℕ) → bit_at writable place ≡ 1 → bit_at word place ≤ 1 → bit_at (bit_and word writable) place ≡ bit_at word place
+kept_bit word place one low = bit_at_and word writable place ∙ (ap (min (bit_at word place)) one ∙ least (bit_at word place) low)
+  where
+    least : (a : ℕ) → a ≤ 1 → min a 1 ≡ a
+    least a l = omega (arith, l)
+
+three_same : (a b : ℕ) → a / 8 % 2 ≡ b / 8 % 2 → a / 16 % 2 ≡ b / 16 % 2 → a / 32 % 2 ≡ b / 32 % 2 → a / 8 % 8 ≡ b / 8 % 8
+three_same a b p q r = omega (arith, p, q, r)
+
+low_five_same : (a b : ℕ) → a / 64 % 2 ≡ b / 64 % 2 → a / 128 % 2 ≡ b / 128 % 2 → a / 256 % 2 ≡ b / 256 % 2 → a / 512 % 2 ≡ b / 512 % 2
+    → a / 1024 % 2 ≡ b / 1024 % 2 → a / 64 % 32 ≡ b / 64 % 32
+low_five_same a b p q r s t = omega (arith, p, q, r, s, t)
+
+high_five_same : (a b : ℕ) → a / 2048 % 2 ≡ b / 2048 % 2 → a / 4096 % 2 ≡ b / 4096 % 2 → a / 8192 % 2 ≡ b / 8192 % 2
+    → a / 16384 % 2 ≡ b / 16384 % 2 → a / 32768 % 2 ≡ b / 32768 % 2 → a / 2048 % 32 ≡ b / 2048 % 32
+high_five_same a b p q r s t = omega (arith, p, q, r, s, t)
+
+ten_same : (a b : ℕ) → a / 64 % 32 ≡ b / 64 % 32 → a / 2048 % 32 ≡ b / 2048 % 32 → a / 64 % 1024 ≡ b / 64 % 1024
+ten_same a b p q = omega (arith, p, q)
+
+-- the fields that a store to CTRL keeps
+record KeepsFields (word kept : ℕ) : Type 0 where
+  enable : kept / 1 % 2 ≡ word / 1 % 2
+  prescaler : kept / 8 % 8 ≡ word / 8 % 8
+  baud : kept / 64 % 1024 ≡ word / 64 % 1024
+  interrupts : kept / 4194304 % 2 ≡ word / 4194304 % 2
+
+keeps_fields : (word : ℕ) → KeepsFields word (bit_and word writable)
+keeps_fields word = record {
+  enable = kept_bit word 0 refl (omega arith);
+  prescaler = three_same _ word (kept_bit word 3 refl (omega arith)) (kept_bit word 4 refl (omega arith)) (kept_bit word 5 refl (omega arith));
+  baud = ten_same _ word
+      (low_five_same _ word (kept_bit word 6 refl (omega arith)) (kept_bit word 7 refl (omega arith)) (kept_bit word 8 refl (omega arith))
+      (kept_bit word 9 refl (omega arith)) (kept_bit word 10 refl (omega arith)))
+      (high_five_same _ word (kept_bit word 11 refl (omega arith)) (kept_bit word 12 refl (omega arith)) (kept_bit word 13 refl (omega arith))
+      (kept_bit word 14 refl (omega arith)) (kept_bit word 15 refl (omega arith)));
+  interrupts = kept_bit word 22 refl (omega arith);
+}
+
+small_writable : (word : ℕ) → bit_and word writable < 2 ^ 23
+small_writable word = let most : bit_and word writable ≤ 0x0040fff9 = and_le_r word 0x0040fff9 in omega (arith, most)
+
+control_told : (s : SerialRegisters) (word : ℕ) → s.kept ≡ bit_and word writable → TellsControl s (serial_control s)
+control_told s word e =
+    tells_control s _ refl (subst (λ k. IsWritable k) (sym e) (writable_part word)) (subst (λ k. k < 2 ^ 23) (sym e) (small_writable word))
+
+store_data : (s : SerialRegisters) (reg word : ℕ) (control : Bool) → serial_is_open s ≡ true → (reg == 0) ≡ control → reg ≢ 0 → (serial_stored s reg word).kept ≡ s.kept
+store_data s reg word true o p other = absurd (other (same_as reg 0 p))
+store_data s reg word false o p other = rw (o, p) refl
+
+at_control : (s : SerialRegisters) (reg word : ℕ) → serial_is_open s ≡ true → reg ≡ 0 → (serial_stored s reg word).kept ≡ bit_and word writable
+at_control s reg word o r = rw (o, r) refl
+
+sets_by : (s : SerialRegisters) (reg word : ℕ) → serial_is_open s ≡ true → SetsControl s reg word (serial_stored s reg word)
+sets_by s reg word o = record {
+  enable = λ r. let e = at_control s reg word o r in
+      (control_told (serial_stored s reg word) word e).enable ∙ ap (λ k. bit_at k 0) e ∙ (keeps_fields word).enable;
+  prescaler = λ r. let e = at_control s reg word o r in
+      (control_told (serial_stored s reg word) word e).prescaler ∙ ap (λ k. k / 2 ^ 3 % 2 ^ 3) e ∙ (keeps_fields word).prescaler;
+  baud = λ r. let e = at_control s reg word o r in
+      (control_told (serial_stored s reg word) word e).baud ∙ ap (λ k. k / 2 ^ 6 % 2 ^ 10) e ∙ (keeps_fields word).baud;
+  interrupts = λ r. let e = at_control s reg word o r in
+      (control_told (serial_stored s reg word) word e).interrupts ∙ ap (λ k. bit_at k 22) e ∙ (keeps_fields word).interrupts;
+  elsewhere = λ other. store_data s reg word _ o refl other;
+}
+
+-- what a store to an open front changes of CTRL
+pub sets_control : (s : SerialRegisters) (reg word : ℕ) (new : SerialRegisters) → new ≡ serial_stored s reg word → serial_is_open s ≡ true → SetsControl s reg word new
+sets_control s reg word new e o = subst (λ n. SetsControl s reg word n) (sym e) (sets_by s reg word o)

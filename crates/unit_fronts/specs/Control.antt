@@ -1,7 +1,7 @@
--- What a load of CTRL tells of a front.
-use Rattle.std.specs.Prelude.{◌≡◌, ◌<◌, ◌↔◌, ℕ, ◌/◌, ◌%◌, ◌^◌, true, bit_and, length}
+-- A law over definitions: what a load of CTRL tells of a serial front, and what a store to it changes.
+use Rattle.std.specs.Prelude.{◌≡◌, ◌≢◌, ◌<◌, ◌↔◌, ℕ, ◌/◌, ◌%◌, ◌^◌, true, bit_and, length}
 use Rattle.std.specs.Int.{bit_at}
-use Rattle.unit_fronts.specs.SerialRegisters.{SerialRegisters}
+use Rattle.unit_fronts.specs.SerialRegisters.{SerialRegisters, serial_control}
 
 -- the bits of CTRL that a store may write: enable (0), prescaler (3 to 5), baud (6 to 15) and interrupt enable (22)
 abbrev pub writable : ℕ
@@ -28,3 +28,12 @@ pub record TellsControl (front : SerialRegisters) (word : ℕ) : Type 0 where
   pub below_prescaler : word / 2 % 2 ^ 2 ≡ 0
   pub below_full : word / 2 ^ 17 % 2 ^ 4 ≡ 0
   pub below_overrun : word / 2 ^ 23 % 2 ^ 7 ≡ 0
+
+-- what a store to an open front's CTRL changes; a store to DATA leaves what was stored there
+pub record SetsControl (old : SerialRegisters) (reg word : ℕ) (new : SerialRegisters) : Type 0 where
+  -- a load gives enable, prescaler, baud and interrupt enable as they were stored
+  pub enable : reg ≡ 0 → bit_at (serial_control new) 0 ≡ bit_at word 0
+  pub prescaler : reg ≡ 0 → serial_control new / 2 ^ 3 % 2 ^ 3 ≡ word / 2 ^ 3 % 2 ^ 3
+  pub baud : reg ≡ 0 → serial_control new / 2 ^ 6 % 2 ^ 10 ≡ word / 2 ^ 6 % 2 ^ 10
+  pub interrupts : reg ≡ 0 → bit_at (serial_control new) 22 ≡ bit_at word 22
+  pub elsewhere : reg ≢ 0 → new.kept ≡ old.kept

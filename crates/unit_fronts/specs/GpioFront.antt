@@ -1,9 +1,10 @@
--- The front of the general-purpose pins: IN at offset 0, OUT at 4, ENABLE at 8, PENDING at 12.
+-- A definition: the front of the general-purpose pins: IN at offset 0, OUT at 4, ENABLE at 8, PENDING at 12.
 use Rattle.std.specs.Prelude.{◌==◌, ℕ, ◌-◌, Bool, not, ◌&&◌, Option, None, Some, if◌then◌else◌, bit_and, bit_or}
 use Rattle.std.specs.Int.{w32, bit_not}
 use Rattle.chip_base.specs.declared.message.Down.{Down}
 use Rattle.chip_base.specs.declared.message.Down.TheVariants.{Set}
 use Rattle.chip_base.specs.declared.message.Up.{Up}
+use Rattle.unit_fronts.specs.FrontCalls.{FrontCall, FrontMeaning, LoadFrom, StoreTo, UnitSays}
 use Rattle.unit_fronts.specs.Owed.{is_open_at, one_more}
 
 pub record GpioRegisters : Type 0 where
@@ -78,3 +79,19 @@ gpio_line s = not (bit_and s.pending s.enable == 0)
 -- one answer more is owed, and all else is reset
 abbrev pub gpio_closed : GpioRegisters → GpioRegisters
 gpio_closed s = gpio_front_reset (one_more s.owed)
+
+-- the front after a call
+abbrev pub gpio_after : GpioRegisters → FrontCall → GpioRegisters
+gpio_after s (LoadFrom reg) = s
+gpio_after s (StoreTo reg word) = gpio_stored s reg word
+gpio_after s (UnitSays up) = gpio_arrived s up
+
+-- what the calls do; the last answer opens the front in its reset state, but for IN, which is the answer's word where it has one
+abbrev pub gpio_front : FrontMeaning GpioRegisters
+gpio_front = record {
+  word = gpio_word;
+  sent = gpio_sent;
+  after = gpio_after;
+  front_reset = gpio_front_reset;
+  opened = λ up. record (gpio_front_reset 0) { inputs = if up.has then up.word else 0 };
+}

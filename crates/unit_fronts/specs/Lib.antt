@@ -1,8 +1,12 @@
+pub mod ClosedFront
 pub mod Control
 pub mod Counts
+pub mod FrontCalls
 pub mod GpioFront
 pub mod GpioRises
+pub mod LoadsAfterStore
 pub mod Owed
-pub mod SerialRegisters
 pub mod PwmFront
+pub mod ReceiveQueue
+pub mod SerialRegisters
 pub mod UartFront

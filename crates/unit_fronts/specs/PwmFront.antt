@@ -1,8 +1,9 @@
--- The front of the pulse-width modulation unit: CTRL at offset 0, DUTY0 to DUTY3 at 4, 8, 12 and 16.
+-- A definition: the front of the pulse-width modulation unit: CTRL at offset 0, DUTY0 to DUTY3 at 4, 8, 12 and 16.
 use Rattle.std.specs.Prelude.{◌==◌, ℕ, ◌-◌, ◌/◌, ◌%◌, not, ◌&&◌, List, [], ◌∷◌, get_or, set, Option, None, Some, if◌then◌else◌, bit_and}
 use Rattle.chip_base.specs.declared.message.Down.{Down}
 use Rattle.chip_base.specs.declared.message.Down.TheVariants.{Set}
 use Rattle.chip_base.specs.declared.message.Up.{Up}
+use Rattle.unit_fronts.specs.FrontCalls.{FrontCall, FrontMeaning, LoadFrom, StoreTo, UnitSays}
 use Rattle.unit_fronts.specs.Owed.{is_open_at, one_more}
 
 pub record PwmRegisters : Type 0 where
@@ -48,3 +49,19 @@ pwm_arrived s up = if up.done && not (is_open_at s.owed) then record s { owed = 
 -- one answer more is owed, and all else is reset
 abbrev pub pwm_closed : PwmRegisters → PwmRegisters
 pwm_closed s = pwm_front_reset (one_more s.owed)
+
+-- the front after a call
+abbrev pub pwm_after : PwmRegisters → FrontCall → PwmRegisters
+pwm_after s (LoadFrom reg) = s
+pwm_after s (StoreTo reg word) = pwm_stored s reg word
+pwm_after s (UnitSays up) = pwm_arrived s up
+
+-- what the calls do; the last answer opens the front in its reset state
+abbrev pub pwm_front : FrontMeaning PwmRegisters
+pwm_front = record {
+  word = pwm_word;
+  sent = pwm_sent;
+  after = pwm_after;
+  front_reset = pwm_front_reset;
+  opened = λ up. pwm_front_reset 0;
+}

@@ -1,5 +1,5 @@
 //! The front of the general-purpose pins.
-ghost use Rattle.std.specs.Prelude.{◌≡◌, ◌⊎◌, false};
+ghost use Rattle.std.specs.Prelude.{◌≡◌, ◌⊎◌, false, true};
 
 use crate::owed::Owed;
 use chip_base::{Down, Up};
@@ -31,9 +31,11 @@ impl Model for GpioFront {
 }
 
 impl GpioFront {
+    ghost use Rattle.unit_fronts.specs.ClosedFront.{AwaitsAnswers};
+    ghost use Rattle.unit_fronts.specs.LoadsAfterStore.{StoresPins};
     ghost use Rattle.unit_fronts.specs.Owed.{is_open_at, CountsAnswers};
     ghost use Rattle.unit_fronts.specs.GpioRises.{MarksRises, ClearsStored};
-    ghost use Rattle.unit_fronts.specs.GpioFront.{gpio_front_reset, gpio_register, gpio_word, gpio_stored, gpio_sent, gpio_heard, gpio_answered, gpio_arrived, gpio_line, gpio_closed};
+    ghost use Rattle.unit_fronts.specs.GpioFront.{gpio_front, gpio_front_reset, gpio_register, gpio_word, gpio_stored, gpio_sent, gpio_heard, gpio_answered, gpio_arrived, gpio_line, gpio_closed};
 
     /// The front at power-on: open, with all registers 0.
     pub fn new() -> GpioFront
@@ -67,11 +69,13 @@ impl GpioFront {
 
     /// Stores a word to the register at an offset and gives the message for the unit. None exactly where the front is closed,
     /// or the register isn't OUT. A store to IN is ignored.
+    #[tactic(auto, using(crate::proofs::LoadsAfterStore::stores_pins))]
     pub fn store(&mut self, reg: u8, word: u32) -> Option<Down>
         requires register { (reg ≡ 0) ⊎ (reg ≡ 4) ⊎ (reg ≡ 8) ⊎ (reg ≡ 12) }
         ensures message { result ≡ gpio_sent self.old reg word }
         ensures front { self.new ≡ gpio_stored self.old reg word }
         ensures owed { self.new.owed ≡ self.old.owed }
+        ensures words { is_open_at self.old.owed ≡ true → StoresPins self.old reg word self.new }
         ensures cleared { ClearsStored self.old reg word self.new }
     {
         if !self.owed.is_open() {
@@ -128,9 +132,10 @@ impl GpioFront {
         self.pending & self.enable != 0
     }
 
-    /// Closes the front. All but the count of owed answers takes its reset state.
+    /// Closes the front. All but the count of owed answers takes its reset state. The last answer opens it with its word in IN.
     pub fn close(&mut self)
-        ensures { self.new ≡ gpio_closed self.old }
+        ensures front { self.new ≡ gpio_closed self.old }
+        ensures answers { AwaitsAnswers gpio_front self.new.owed self.new }
     {
         self.inputs = 0;
         self.outputs = 0;

@@ -6,8 +6,8 @@
 
 pub mod gpio_front;
 mod owed;
-mod serial_registers;
 pub mod pwm_front;
+mod serial_registers;
 #[cfg(test)]
 mod tests;
 pub mod uart_front;

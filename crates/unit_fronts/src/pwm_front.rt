@@ -1,5 +1,5 @@
 //! The front of the pulse-width modulation unit.
-ghost use Rattle.std.specs.Prelude.{◌≡◌, ◌⊎◌, false};
+ghost use Rattle.std.specs.Prelude.{◌≡◌, ◌⊎◌, false, true};
 
 use crate::owed::Owed;
 use chip_base::{Down, Up};
@@ -31,8 +31,10 @@ impl Model for PwmFront {
 }
 
 impl PwmFront {
+    ghost use Rattle.unit_fronts.specs.ClosedFront.{AwaitsAnswers};
+    ghost use Rattle.unit_fronts.specs.LoadsAfterStore.{StoresDuties};
     ghost use Rattle.unit_fronts.specs.Owed.{is_open_at, CountsAnswers};
-    ghost use Rattle.unit_fronts.specs.PwmFront.{pwm_front_reset, pwm_word, pwm_stored, pwm_sent, pwm_arrived, pwm_closed};
+    ghost use Rattle.unit_fronts.specs.PwmFront.{pwm_front, pwm_front_reset, pwm_word, pwm_stored, pwm_sent, pwm_arrived, pwm_closed};
 
     /// The front at power-on: open, with all registers 0.
     pub fn new() -> PwmFront
@@ -61,10 +63,12 @@ impl PwmFront {
     }
 
     /// Stores a word to the register at an offset and gives the message for the unit. None exactly where the front is closed.
+    #[tactic(auto, using(crate::proofs::LoadsAfterStore::stores_duties))]
     pub fn store(&mut self, reg: u8, word: u32) -> Option<Down>
         requires register { (reg ≡ 0) ⊎ (reg ≡ 4) ⊎ (reg ≡ 8) ⊎ (reg ≡ 12) ⊎ (reg ≡ 16) }
         ensures message { result ≡ pwm_sent self.old reg word }
         ensures front { self.new ≡ pwm_stored self.old reg word }
+        ensures words { is_open_at self.old.owed ≡ true → StoresDuties self.old reg word self.new }
         ensures owed { self.new.owed ≡ self.old.owed }
     {
         if !self.owed.is_open() {
@@ -99,9 +103,10 @@ impl PwmFront {
         false
     }
 
-    /// Closes the front. All but the count of owed answers takes its reset state.
+    /// Closes the front. All but the count of owed answers takes its reset state, in which the last answer opens it.
     pub fn close(&mut self)
-        ensures { self.new ≡ pwm_closed self.old }
+        ensures front { self.new ≡ pwm_closed self.old }
+        ensures answers { AwaitsAnswers pwm_front self.new.owed self.new }
     {
         self.control = 0;
         self.duties = [0; 4];

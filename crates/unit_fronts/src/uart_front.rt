@@ -30,25 +30,33 @@ impl Model for UartFront {
 
 impl UartFront {
     ghost use Rattle.chip_base.specs.Messages.{at_data};
-    ghost use Rattle.unit_fronts.specs.Control.{TellsControl};
+    ghost use Rattle.unit_fronts.specs.ClosedFront.{AwaitsAnswers};
+    ghost use Rattle.unit_fronts.specs.Control.{TellsControl, SetsControl};
     ghost use Rattle.unit_fronts.specs.Counts.{SpendsCredits, HearsUnit};
+    ghost use Rattle.unit_fronts.specs.FrontCalls.{LoadFrom, StoreTo, UnitSays};
+    ghost use Rattle.unit_fronts.specs.ReceiveQueue.{GivesInOrder, MarksOverrun};
     ghost use Rattle.unit_fronts.specs.SerialRegisters.{serial_front_reset, serial_is_open, serial_arrived, serial_line, serial_closed};
-    ghost use Rattle.unit_fronts.specs.UartFront.{serial_word, serial_loaded, serial_stored, serial_sent};
+    ghost use Rattle.unit_fronts.specs.UartFront.{serial_front, serial_word, serial_loaded, serial_stored, serial_sent};
 
     /// The front at power-on: open, with sixteen credits.
     pub fn new() -> UartFront
         ensures { result ≡ serial_front_reset 0 }
     {
-        UartFront { registers: SerialRegisters::new() }
+        UartFront {
+            registers: SerialRegisters::new(),
+        }
     }
 
     /// Loads the register at an offset. A load of DATA takes the oldest received byte, or gives 0.
+    #[tactic(auto, using(crate::proofs::ReceiveQueue::gives_in_order, crate::proofs::ReceiveQueue::load_marks))]
     pub fn load(&mut self, reg: u8) -> u32
         requires register { (reg ≡ 0) ⊎ (reg ≡ 4) }
         ensures word { result ≡ serial_word self.old reg }
         ensures front { self.new ≡ serial_loaded self.old reg }
         ensures control { serial_is_open self.old ≡ true → reg ≡ 0 → TellsControl self.old result }
         ensures credits { SpendsCredits at_data self.old None self.new }
+        ensures order { GivesInOrder self.old }
+        ensures overrun { MarksOverrun self.old (LoadFrom reg) self.new }
     {
         if !self.registers.is_open() {
             0
@@ -61,12 +69,14 @@ impl UartFront {
 
     /// Stores a word to the register at an offset and gives the message for the unit. None exactly where the front is closed,
     /// or where a store to DATA finds no credit.
-    #[tactic(auto, using(crate::proofs::Control::writable_part))]
+    #[tactic(auto, using(crate::proofs::Control::writable_part, crate::proofs::Control::sets_control, crate::proofs::ReceiveQueue::store_marks))]
     pub fn store(&mut self, reg: u8, word: u32) -> Option<Down>
         requires register { (reg ≡ 0) ⊎ (reg ≡ 4) }
         ensures message { result ≡ serial_sent self.old reg word }
         ensures front { self.new ≡ serial_stored self.old reg word }
         ensures credits { SpendsCredits at_data self.old result self.new }
+        ensures overrun { MarksOverrun self.old (StoreTo reg word) self.new }
+        ensures control { serial_is_open self.old ≡ true → SetsControl self.old reg word self.new }
     {
         if !self.registers.is_open() {
             return None;
@@ -89,9 +99,11 @@ impl UartFront {
     /// Takes a message from the unit. An open front drops one that says that a Reset was done; of any other it takes the credit,
     /// unless it has sixteen, and the received byte, which is lost where sixteen wait. A closed front counts the answers to its
     /// Resets, and takes nothing else.
+    #[tactic(auto, using(crate::proofs::ReceiveQueue::arrival_marks))]
     pub fn arrive(&mut self, up: Up)
         ensures front { self.new ≡ serial_arrived self.old up }
         ensures credits { HearsUnit self.old up self.new }
+        ensures overrun { MarksOverrun self.old (UnitSays up) self.new }
     {
         self.registers.arrive(up);
     }
@@ -103,9 +115,11 @@ impl UartFront {
         self.registers.line()
     }
 
-    /// Closes the front. All but the count of owed answers takes its reset state.
+    /// Closes the front. All but the count of owed answers takes its reset state, in which the last answer opens it.
+    #[tactic(auto, using(crate::proofs::ClosedFront::serial_awaits))]
     pub fn close(&mut self)
-        ensures { self.new ≡ serial_closed self.old }
+        ensures front { self.new ≡ serial_closed self.old }
+        ensures answers { AwaitsAnswers serial_front self.new.owed self.new }
     {
         self.registers.close();
     }
