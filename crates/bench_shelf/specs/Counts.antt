@@ -1,4 +1,4 @@
--- Counts of calls and faults.
+-- Counts of calls and faults (definitions).
 use Rattle.std.specs.Prelude.{ℕ, ◌+◌, ◌-◌, ◌^◌, min}
 
 -- a count with one more, or as it was where it stands at its last value

@@ -1,5 +1,6 @@
 //! The files of the system.
-ghost use Rattle.std.specs.Prelude.{◌≡◌, ℕ, ◌≤◌, None, false, vec_len, IfOk, IsErrOf};
+ghost use Rattle.std.specs.Prelude.{◌≡◌, ℕ, ◌≤◌, None, false, vec_len, IfOk, OnOk, IsErrOf};
+ghost use Rattle.bench_shelf.specs.Counts.{counted};
 
 use crate::shelf::{Shelf, ShelfFault};
 use std::alloc::Global;
@@ -8,7 +9,8 @@ use std::io::{ErrorKind, Read};
 use std::rt::Files;
 use std::{fs, io};
 
-/// The files of the system. It tells no file, so that also a missing file and one that is too long count as faults.
+/// The files of the system. It discloses no file, so a missing file and one that is too long count as faults
+/// too. Want of memory is no fault.
 #[derive(Drop)]
 pub struct FileShelf<'a> {
     rt: &'a HostRuntime,
@@ -40,13 +42,21 @@ fn beginning<R: Files>(rt: &R, alloc: Global, name: &str, limit: u32) -> io::Res
 
 impl Shelf for FileShelf<'_> {
     ghost held = { λ s. record {
-        told = false;
-        file = λ _. None;
-        read_faults = s.read_faults;
-        write_faults = s.write_faults;
+      discloses = false;
+      file = λ _. None;
+      read_faults = s.read_faults;
+      write_faults = s.write_faults;
     } };
 
-    fn read(&mut self, alloc: Global, name: &str, limit: u32) -> Result<Vec<u8>, ShelfFault> {
+    fn read(&mut self, alloc: Global, name: &str, limit: u32) -> Result<Vec<u8>, ShelfFault>
+        ensures writes { self.new.write_faults ≡ self.old.write_faults }
+        ensures later { self.old.read_faults ≤ self.new.read_faults }
+        ensures short { IfOk result (λ bytes. vec_len bytes ≤ limit) }
+        ensures no_fault { OnOk result (self.new.read_faults ≡ self.old.read_faults) }
+        ensures raised { IsErrOf result ShelfFault.Failed → self.new.read_faults ≡ counted self.old.read_faults }
+        ensures long { (n : ℕ) → IsErrOf result (ShelfFault.Long n) → (n ≡ limit) × (self.new.read_faults ≡ counted self.old.read_faults) }
+        ensures memory { IsErrOf result ShelfFault.Memory → self.new.read_faults ≡ self.old.read_faults }
+    {
         let fault = match beginning(self.rt, alloc, name, limit) {
             Ok(bytes) => {
                 if bytes.len() <= limit as usize {
@@ -54,8 +64,8 @@ impl Shelf for FileShelf<'_> {
                 }
                 ShelfFault::Long { limit }
             }
-            Err(e) => {
-                if e.kind() == ErrorKind::OutOfMemory {
+            Err(error) => {
+                if error.kind() == ErrorKind::OutOfMemory {
                     return Err(ShelfFault::Memory);
                 }
                 ShelfFault::Failed
@@ -65,11 +75,23 @@ impl Shelf for FileShelf<'_> {
         Err(fault)
     }
 
-    fn write(&mut self, name: &str, bytes: &[u8]) -> Result<(), ShelfFault> {
-        if fs::write(self.rt, name, bytes).is_err() {
-            self.write_faults = self.write_faults.saturating_add(1);
-            return Err(ShelfFault::Failed);
+    fn write(&mut self, name: &str, bytes: &[u8]) -> Result<(), ShelfFault>
+        ensures reads { self.new.read_faults ≡ self.old.read_faults }
+        ensures later { self.old.write_faults ≤ self.new.write_faults }
+        ensures no_fault { OnOk result (self.new.write_faults ≡ self.old.write_faults) }
+        ensures raised { IsErrOf result ShelfFault.Failed → self.new.write_faults ≡ counted self.old.write_faults }
+        ensures never_long { (n : ℕ) → IsErrOf result (ShelfFault.Long n) → ⊥ }
+        ensures memory { IsErrOf result ShelfFault.Memory → self.new.write_faults ≡ self.old.write_faults }
+    {
+        match fs::write(self.rt, name, bytes) {
+            Ok(()) => Ok(()),
+            Err(error) => {
+                if error.kind() == ErrorKind::OutOfMemory {
+                    return Err(ShelfFault::Memory);
+                }
+                self.write_faults = self.write_faults.saturating_add(1);
+                Err(ShelfFault::Failed)
+            }
         }
-        Ok(())
     }
 }

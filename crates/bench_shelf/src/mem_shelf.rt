@@ -99,10 +99,10 @@ fn put(
 
 impl Shelf for MemShelf {
     ghost held = { λ s. record {
-        told = true;
-        file = λ q. file_in s.files.items q;
-        read_faults = s.read_faults;
-        write_faults = s.write_faults;
+      discloses = true;
+      file = λ q. file_in s.files.items q;
+      read_faults = s.read_faults;
+      write_faults = s.write_faults;
     } };
 
     fn read(&mut self, alloc: Global, name: &str, limit: u32) -> Result<Vec<u8>, ShelfFault>

@@ -45,7 +45,7 @@ impl Sink for MemSink {
     ghost faults = { λ s. s.faults };
 
     fn put(&mut self, bytes: &[u8]) -> Result<(), SinkFault>
-        ensures writes { Writes (Some self.old.bytes.items) (Some self.new.bytes.items) self.old.faults self.new.faults bytes.now result }
+        ensures writes { Writes (λ s. Some s.bytes.items) (λ s. s.faults) self.old self.new bytes.now result }
         // the call is counted, and a call that is refused changes no more than that but the count of faults
         ensures numbers { self.new.failing ≡ self.old.failing }
         ensures calls { self.new.calls ≡ counted self.old.calls }

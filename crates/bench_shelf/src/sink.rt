@@ -29,7 +29,7 @@ impl From<AllocError> for SinkFault {
 
 /// What takes text. Its count of faults never falls, and stands still at 2^64 - 1.
 pub trait Sink {
-    /// The bytes written so far, where the sink tells them.
+    /// The bytes written so far, where the sink shows them.
     ghost written: { Self → Option (List ℕ) };
 
     /// How often the sink has failed.
@@ -37,5 +37,5 @@ pub trait Sink {
 
     /// Writes the bytes after those written before. After a refusal a beginning of them was written.
     fn put(&mut self, bytes: &[u8]) -> Result<(), SinkFault>
-        ensures { Writes (written self.old) (written self.new) (faults self.old) (faults self.new) bytes.now result };
+        ensures { Writes written faults self.old self.new bytes.now result };
 }
