@@ -67,8 +67,8 @@ keeps_refuses fault c zero three seven nine k = (reads, by_status)
     not_missed : c.status ≡ 3 → ⊥
     not_missed e = (k.refused e).misses.asked
 
-    told : c.status ≢ 9 → Tells (refused fault) c
-    told other = let r = k.ran not_missed other in subst (λ w. Tells (ended w) c) r.comes r.tells
+    tells_other : c.status ≢ 9 → Tells (refused fault) c
+    tells_other other = let r = k.ran not_missed other in subst (λ w. Tells (ended w) c) r.comes r.tells
 
     begins : c.status ≡ 9 → AppendsBeginning c.written c.written_after fault.text
     begins nine = elim (k.want_of_memory nine) [
@@ -81,7 +81,7 @@ keeps_refuses fault c zero three seven nine k = (reads, by_status)
 
     wanting : c.status ≡ 9 → Tells (refused fault) c
     wanting e = record {
-      told = k.told_stays;
+      disclosure = k.disclosure;
       reads = reads;
       writes_later = k.writes_later;
       puts_later = k.puts_later;
@@ -102,7 +102,7 @@ keeps_refuses fault c zero three seven nine k = (reads, by_status)
 
     by_test : (b : Bool) → (c.status == 9) ≡ b → Tells (refused fault) c
     by_test true e = wanting ((Decides-eqb c.status 9).0 e)
-    by_test false e = told (λ same. true_false (sym ((Decides-eqb c.status 9).1 same) ∙ e))
+    by_test false e = tells_other (λ same. true_false (sym ((Decides-eqb c.status 9).1 same) ∙ e))
       where
         true_false : true ≡ false → ⊥
         true_false x = absurd (cc)

@@ -1,17 +1,17 @@
 -- A call that reads by a plan and then tells what came of it keeps to the plan.
 use Rattle.std.proofs.Common.{◌≡◌, ◌≢◌, ◌≤◌, ℕ, arith, inl, inr, List, [], Option, Some, None, Result, Ok, Err, refl, ap, sym, subst, ◌∙◌}
 use Rattle.std.specs.Prelude.{◌⊎◌, IsTrue}
-use Rattle.bench_shelf.specs.Held.{Held}
+use Rattle.bench_shelf.specs.Held.{Held, Stays}
 use Rattle.bench_shelf.proofs.Writing.{appended_none}
 use Rattle.soc_words.specs.Causes.{Rose, AppendsBeginning}
 use Rattle.bench_plan.specs.Answers.{Answer, Done, File, answer_in, done, ended, missed, refused}
 use Rattle.bench_plan.specs.Calls.{Call, ChangesOnly, Tells, TellsStop}
-use Rattle.bench_plan.specs.Keeps.{Answers, CutsShort, IsQuiet, Keeps, MayMake, TellsWhole, wanted_of}
+use Rattle.bench_plan.specs.Keeps.{Answers, CutsShort, IsFaultless, Keeps, MayMake, TellsWhole, answer_of}
 use Rattle.bench_plan.specs.Readings.{Fault, Reading}
-use Rattle.bench_plan.specs.Steps.{Asks, Comes, Misses, Reads, Results, Stays}
+use Rattle.bench_plan.specs.Steps.{Asks, Comes, Misses, ReadsBy, Results}
 use Rattle.bench_plan.specs.declared.stop.Stop.{Stop}
 use Rattle.bench_plan.specs.declared.stop.Stop.TheVariants.{Refused, Memory}
-use Rattle.bench_plan.proofs.Told.{asks_long, asks_none, comes_answer}
+use Rattle.bench_plan.proofs.Disclosed.{asks_long, asks_none, comes_answer}
 
 -- the same call, seen from before its reads
 abbrev pub from : Held → Call → Call
@@ -22,9 +22,9 @@ changes_moved : (out : Option File) (old mid new : Held) → Stays old mid → C
 changes_moved None old mid new s c = (c.0 ∙ s.writes, λ q. c.1 q ∙ s.files q)
 changes_moved (Some f) old mid new s c = λ q other. c q other ∙ s.files q
 
-tells_from : (wanted : Answer) (old : Held) (c : Call) → Stays old c.before → c.before.read_faults ≡ old.read_faults → Tells wanted c → Tells wanted (from old c)
-tells_from wanted old c s e t = record {
-  told = t.told ∙ s.told;
+tells_from : (told : Answer) (old : Held) (c : Call) → Stays old c.before → c.before.read_faults ≡ old.read_faults → Tells told c → Tells told (from old c)
+tells_from told old c s e t = record {
+  disclosure = t.disclosure ∙ s.disclosure;
   reads = t.reads ∙ e;
   writes_later = subst (λ n. n ≤ c.after.write_faults) s.writes t.writes_later;
   puts_later = t.puts_later;
@@ -34,12 +34,12 @@ tells_from wanted old c s e t = record {
   made = t.made;
   cut_short = λ seven. elim (t.cut_short seven) [ inl rose ↦ inl (subst (λ n. Rose n c.after.write_faults) s.writes rose) | inr rest ↦ inr rest ];
   no_fault = λ zero. ((t.no_fault zero).0, (t.no_fault zero).1 ∙ s.writes);
-  changes = changes_moved wanted.out old c.before c.after s t.changes;
+  changes = changes_moved told.out old c.before c.after s t.changes;
 }
 
 -- what is told has one of three statuses
-by_status : {G : Type 0} (wanted : Answer) (c : Call) → Tells wanted c → (c.status ≡ wanted.status → G) → (c.status ≡ 9 → G) → (wanted.status ≡ 0 → c.status ≡ 7 → G) → G
-by_status wanted c t same nine seven = elim t.statuses [ inl e ↦ same e | inr other ↦ elim other [ inl e ↦ nine e | inr e ↦ seven e.0 e.1 ] ]
+by_status : {G : Type 0} (told : Answer) (c : Call) → Tells told c → (c.status ≡ told.status → G) → (c.status ≡ 9 → G) → (told.status ≡ 0 → c.status ≡ 7 → G) → G
+by_status told c t same nine seven = elim t.statuses [ inl e ↦ same e | inr other ↦ elim other [ inl e ↦ nine e | inr e ↦ seven e.0 e.1 ] ]
 
 -- the statuses that mean a failure are no answer's
 pub record IsPlain (status : ℕ) : Type 0 where
@@ -71,31 +71,31 @@ three_seven e = absurd (cc)
 three_zero : ◌≡◌ {A = ℕ} 3 0 → ⊥
 three_zero e = absurd (cc)
 
--- told whole, or memory was wanted
-whole_from : (wanted : Answer) (c : Call) → Tells wanted c → IsQuiet c → TellsWhole wanted c ⊎ ((c.status ≡ 9) × AppendsBeginning c.written c.written_after wanted.text)
-whole_from wanted c t quiet = by_status wanted c t
-    (λ e. inl (record { status = e; text = elim (t.whole e) [ inl all ↦ all | inr rose ↦ absurd (quiet.puts rose) ]; files = (t.made e, t.changes) }))
+-- told whole, or memory was told
+whole_from : (told : Answer) (c : Call) → Tells told c → IsFaultless c → TellsWhole told c ⊎ ((c.status ≡ 9) × AppendsBeginning c.written c.written_after told.text)
+whole_from told c t faultless = by_status told c t
+    (λ e. inl (record { status = e; text = elim (t.whole e) [ inl all ↦ all | inr rose ↦ absurd (faultless.puts rose) ]; files = (t.made e, t.changes) }))
     (λ e. inr (e, t.beginning))
-    (λ zero e. absurd (elim (t.cut_short e) [ inl rose ↦ quiet.writes rose | inr rest ↦ quiet.puts rest.0 ]))
+    (λ zero e. absurd (elim (t.cut_short e) [ inl rose ↦ faultless.writes rose | inr rest ↦ faultless.puts rest.0 ]))
 
-pub answers_from : (wanted : Answer) (c : Call) → Tells wanted c → c.status ≢ 7 → c.status ≢ 9 → Answers wanted c
-answers_from wanted c t seven nine =
-    let same : c.status ≡ wanted.status = by_status wanted c t (λ e. e) (λ e. absurd (nine e)) (λ zero e. absurd (seven e)) in
+pub answers_from : (told : Answer) (c : Call) → Tells told c → c.status ≢ 7 → c.status ≢ 9 → Answers told c
+answers_from told c t seven nine =
+    let same : c.status ≡ told.status = by_status told c t (λ e. e) (λ e. absurd (nine e)) (λ zero e. absurd (seven e)) in
     record {
       status = same;
-      text = (t.beginning, λ quiet. elim (t.whole same) [ inl all ↦ all | inr rose ↦ absurd (quiet rose) ]);
+      text = (t.beginning, λ faultless. elim (t.whole same) [ inl all ↦ all | inr rose ↦ absurd (faultless rose) ]);
       files = (t.made same, t.changes);
     }
 
-why_cut : (wanted : Answer) (c : Call) → Tells wanted c → c.status ≡ 7 → Rose c.puts c.puts_after ⊎ Rose c.before.write_faults c.after.write_faults
-why_cut wanted c t seven = elim (t.cut_short seven) [ inl rose ↦ inr rose | inr rest ↦ inl rest.0 ]
+why_cut : (told : Answer) (c : Call) → Tells told c → c.status ≡ 7 → Rose c.puts c.puts_after ⊎ Rose c.before.write_faults c.after.write_faults
+why_cut told c t seven = elim (t.cut_short seven) [ inl rose ↦ inr rose | inr rest ↦ inl rest.0 ]
 
-cuts_from : (wanted : Answer) (c : Call) → Tells wanted c → wanted.status ≢ 7 → c.status ≡ 7 → CutsShort wanted c
-cuts_from wanted c t other seven = record {
-  done = by_status wanted c t (λ e. absurd (other (sym e ∙ seven))) (λ e. absurd (apart e seven nine_seven)) (λ zero e. zero);
+cuts_from : (told : Answer) (c : Call) → Tells told c → told.status ≢ 7 → c.status ≡ 7 → CutsShort told c
+cuts_from told c t other seven = record {
+  done = by_status told c t (λ e. absurd (other (sym e ∙ seven))) (λ e. absurd (apart e seven nine_seven)) (λ zero e. zero);
   text = t.beginning;
-  files = λ quiet. elim (t.cut_short seven) [ inl rose ↦ absurd (quiet rose) | inr rest ↦ (rest.1, t.changes) ];
-  why = why_cut wanted c t seven;
+  files = λ faultless. elim (t.cut_short seven) [ inl rose ↦ absurd (faultless rose) | inr rest ↦ (rest.1, t.changes) ];
+  why = why_cut told c t seven;
 }
 
 -- no file is changed but the one that is made
@@ -106,9 +106,9 @@ only_made plan c (Some f) q changes other = changes q (other f refl)
 -- what the plan comes to was told
 keeps_end : (plan : Reading Done) (c : Call) (end : Result Done Fault) → Comes c.before plan end → IsPlain (ended end).status → Tells (ended end) c → Keeps plan c
 keeps_end plan c end comes plain t = record {
-  complete = λ told quiet. subst (λ a. TellsWhole a c ⊎ ((c.status ≡ 9) × AppendsBeginning c.written c.written_after a.text)) (sym (same told)) (whole_from (ended end) c t quiet);
-  answered = λ told three seven nine. subst (λ a. Answers a c) (sym (same told)) (answers_from (ended end) c t seven nine);
-  cut_short = λ told seven. subst (λ a. CutsShort a c) (sym (same told)) (cuts_from (ended end) c t plain.no_failure seven);
+  complete = λ discloses faultless. subst (λ a. TellsWhole a c ⊎ ((c.status ≡ 9) × AppendsBeginning c.written c.written_after a.text)) (sym (same discloses)) (whole_from (ended end) c t faultless);
+  answered = λ discloses three seven nine. subst (λ a. Answers a c) (sym (same discloses)) (answers_from (ended end) c t seven nine);
+  cut_short = λ discloses seven. subst (λ a. CutsShort a c) (sym (same discloses)) (cuts_from (ended end) c t plain.no_failure seven);
   refused = λ three. absurd (not_three three);
   want_of_memory = λ nine. inr (inl (record { end = end; comes = comes; text = t.beginning }));
   ran = λ three nine. record { end = end; comes = comes; tells = t };
@@ -119,14 +119,14 @@ keeps_end plan c end comes plain t = record {
   no_writes = λ none. unwritten end comes t.changes none;
   kept = λ zero seven nine q. kept_by end t zero seven nine q;
   others = λ q other. only_made plan c (ended end).out q t.changes (λ f e. made_by end comes f e q other);
-  told_stays = t.told;
+  disclosure = t.disclosure;
   reads_later = omega (arith, t.reads);
   writes_later = t.writes_later;
   puts_later = t.puts_later;
 }
   where
-    same : IsTrue c.before.told → wanted_of plan c ≡ ended end
-    same told = comes_answer c.before plan end told comes
+    same : IsTrue c.before.discloses → answer_of plan c ≡ ended end
+    same discloses = comes_answer c.before plan end discloses comes
 
     not_three : c.status ≡ 3 → ⊥
     not_three three = by_status (ended end) c t (λ e. plain.no_miss (sym e ∙ three)) (λ e. apart e three nine_three) (λ zero e. apart e three seven_three)
@@ -151,28 +151,28 @@ keeps_end plan c end comes plain t = record {
     made_by (Err fault) k f e q other named = absurd (cc)
 
 -- a file isn't read
-misses_answer : (old new : Held) (plan : Reading Done) (text : List ℕ) → Misses old new plan text → IsTrue old.told
+misses_answer : (old new : Held) (plan : Reading Done) (text : List ℕ) → Misses old new plan text → IsTrue old.discloses
     → (answer_in old.file plan ≡ missed text) ⊎ Rose old.read_faults new.read_faults
-misses_answer old new plan text m told = elim m.why [
+misses_answer old new plan text m discloses = elim m.why [
   | inl u ↦ elim u.1 [
-    | inl there ↦ inl (asks_none old plan m.name m.limit told m.asked there.1 ∙ ap missed (sym u.0))
+    | inl there ↦ inl (asks_none old plan m.name m.limit discloses m.asked there.1 ∙ ap missed (sym u.0))
     | inr rose ↦ inr rose
   ]
   | inr u ↦ elim u.1 [
-    | inl there ↦ inl (asks_long old plan m.name m.limit told m.asked there.1 ∙ ap missed (sym u.0))
+    | inl there ↦ inl (asks_long old plan m.name m.limit discloses m.asked there.1 ∙ ap missed (sym u.0))
     | inr rose ↦ inr rose.1
   ]
 ]
 
 misses_read : (old new : Held) (plan : Reading Done) (text : List ℕ) → Misses old new plan text
-    → Rose old.read_faults new.read_faults ⊎ (IsTrue old.told × ((answer_in old.file plan).status ≡ 3))
+    → Rose old.read_faults new.read_faults ⊎ (IsTrue old.discloses × ((answer_in old.file plan).status ≡ 3))
 misses_read old new plan text m = elim m.why [
-  | inl u ↦ elim u.1 [ inl there ↦ by_told there.0 | inr rose ↦ inl rose ]
-  | inr u ↦ elim u.1 [ inl there ↦ by_told there.0 | inr rose ↦ inl rose.1 ]
+  | inl u ↦ elim u.1 [ inl there ↦ by_disclosed there.0 | inr rose ↦ inl rose ]
+  | inr u ↦ elim u.1 [ inl there ↦ by_disclosed there.0 | inr rose ↦ inl rose.1 ]
 ]
   where
-    by_told : IsTrue old.told → Rose old.read_faults new.read_faults ⊎ (IsTrue old.told × ((answer_in old.file plan).status ≡ 3))
-    by_told told = elim (misses_answer old new plan text m told) [ inl e ↦ inr (told, ap (λ a. a.status) e) | inr rose ↦ inl rose ]
+    by_disclosed : IsTrue old.discloses → Rose old.read_faults new.read_faults ⊎ (IsTrue old.discloses × ((answer_in old.file plan).status ≡ 3))
+    by_disclosed discloses = elim (misses_answer old new plan text m discloses) [ inl e ↦ inr (discloses, ap (λ a. a.status) e) | inr rose ↦ inl rose ]
 
 misses_later : (old mid new : Held) (plan : Reading Done) (text : List ℕ) → new.read_faults ≡ mid.read_faults → Misses old mid plan text → Misses old new plan text
 misses_later old mid new plan text e m = record {
@@ -187,12 +187,12 @@ misses_later old mid new plan text e m = record {
 
 keeps_miss : (plan : Reading Done) (old : Held) (c : Call) (text : List ℕ) → Stays old c.before → Misses old c.before plan text → Tells (missed text) c → Keeps plan (from old c)
 keeps_miss plan old c text s before_misses t = record {
-  complete = λ told quiet. elim (misses_answer old c.after plan text m told) [
-    | inl e ↦ subst (λ a. TellsWhole a (from old c) ⊎ ((c.status ≡ 9) × AppendsBeginning c.written c.written_after a.text)) (sym e) (whole told quiet)
-    | inr rose ↦ absurd (quiet.reads rose)
+  complete = λ discloses faultless. elim (misses_answer old c.after plan text m discloses) [
+    | inl e ↦ subst (λ a. TellsWhole a (from old c) ⊎ ((c.status ≡ 9) × AppendsBeginning c.written c.written_after a.text)) (sym e) (whole discloses faultless)
+    | inr rose ↦ absurd (faultless.reads rose)
   ];
-  answered = λ told three seven nine. absurd (by_status (missed text) c t three nine (λ z e. seven e));
-  cut_short = λ told seven. absurd (not_seven seven);
+  answered = λ discloses three seven nine. absurd (by_status (missed text) c t three nine (λ z e. seven e));
+  cut_short = λ discloses seven. absurd (not_seven seven);
   refused = λ three. record {
     line = text;
     misses = m;
@@ -208,7 +208,7 @@ keeps_miss plan old c text s before_misses t = record {
   no_writes = λ none. t.changes.0 ∙ s.writes;
   kept = λ zero seven nine q. t.changes.1 q ∙ s.files q;
   others = λ q other. t.changes.1 q ∙ s.files q;
-  told_stays = t.told ∙ s.told;
+  disclosure = t.disclosure ∙ s.disclosure;
   reads_later = omega (arith, t.reads, s.later);
   writes_later = omega (arith, t.writes_later, s.writes);
   puts_later = t.puts_later;
@@ -220,23 +220,23 @@ keeps_miss plan old c text s before_misses t = record {
     not_seven : c.status ≡ 7 → ⊥
     not_seven seven = by_status (missed text) c t (λ e. apart e seven three_seven) (λ e. apart e seven nine_seven) (λ z e. three_zero z)
 
-    whole : IsTrue old.told → IsQuiet (from old c) → TellsWhole (missed text) (from old c) ⊎ ((c.status ≡ 9) × AppendsBeginning c.written c.written_after text)
-    whole told quiet = by_status (missed text) c t
+    whole : IsTrue old.discloses → IsFaultless (from old c) → TellsWhole (missed text) (from old c) ⊎ ((c.status ≡ 9) × AppendsBeginning c.written c.written_after text)
+    whole discloses faultless = by_status (missed text) c t
         (λ e. inl (record {
           status = e;
-          text = elim (t.whole e) [ inl all ↦ all | inr rose ↦ absurd (quiet.puts rose) ];
+          text = elim (t.whole e) [ inl all ↦ all | inr rose ↦ absurd (faultless.puts rose) ];
           files = (tt, (t.changes.0 ∙ s.writes, λ q. t.changes.1 q ∙ s.files q));
         }))
         (λ e. inr (e, t.beginning))
         (λ z e. absurd (three_zero z))
 
--- memory was wanted before anything was told
+-- memory was told before anything was told
 keeps_want : (plan : Reading Done) (c : Call) → c.status ≡ 9 → Stays c.before c.after → c.written_after ≡ c.written → c.puts_after ≡ c.puts
     → (c.after.read_faults ≡ c.before.read_faults) ⊎ ((name : List ℕ) × (limit : ℕ) × Asks c.before plan name limit) → Keeps plan c
 keeps_want plan c nine s silent puts reads = record {
-  complete = λ told quiet. inr (nine, record { front = []; back = (wanted_of plan c).text; whole = refl; new_is = silent ∙ appended_none c.written });
-  answered = λ told three seven other. absurd (other nine);
-  cut_short = λ told seven. absurd (apart nine seven nine_seven);
+  complete = λ discloses faultless. inr (nine, record { front = []; back = (answer_of plan c).text; whole = refl; new_is = silent ∙ appended_none c.written });
+  answered = λ discloses three seven other. absurd (other nine);
+  cut_short = λ discloses seven. absurd (apart nine seven nine_seven);
   refused = λ three. absurd (apart nine three nine_three);
   want_of_memory = λ e. inl silent;
   ran = λ three other. absurd (other nine);
@@ -247,14 +247,14 @@ keeps_want plan c nine s silent puts reads = record {
   no_writes = λ none. s.writes;
   kept = λ zero seven other q. s.files q;
   others = λ q other. s.files q;
-  told_stays = s.told;
+  disclosure = s.disclosure;
   reads_later = s.later;
   writes_later = omega (arith, s.writes);
   puts_later = omega (arith, puts);
 }
 
 -- a plan that was followed to its end
-pub keeps_done : (plan : Reading Done) (old : Held) (c : Call) (d : Done) → Reads old c.before plan (Ok d) → Tells (done d) c → Keeps plan (from old c)
+pub keeps_done : (plan : Reading Done) (old : Held) (c : Call) (d : Done) → ReadsBy old c.before plan (Ok d) → Tells (done d) c → Keeps plan (from old c)
 keeps_done plan old c d r t =
     keeps_end plan (from old c) (Ok d) r.results.1 (record { no_miss = λ e. absurd (cc); no_failure = λ e. absurd (cc); no_want = λ e. absurd (cc) })
     (tells_from (done d) old c r.stays r.results.0 t)
@@ -268,7 +268,7 @@ keeps_fault plan old c fault s seven nine (inr m) t =
     keeps_miss plan old c fault.text s m.1 (subst (λ n. Tells (record { status = n; text = fault.text; out = None }) c) m.0 t)
 
 -- why a job isn't done was told
-pub keeps_stopped : (plan : Reading Done) (old new : Held) (written written_after : Option (List ℕ)) (puts puts_after status : ℕ) (stop : Stop) → Reads old new plan (Err stop)
+pub keeps_stopped : (plan : Reading Done) (old new : Held) (written written_after : Option (List ℕ)) (puts puts_after status : ℕ) (stop : Stop) → ReadsBy old new plan (Err stop)
     → TellsStop stop written written_after puts puts_after status → Keeps plan (record {
       before = old;
       after = new;

@@ -1,5 +1,6 @@
 pub mod Readings
-pub mod Told
+pub mod Disclosed
 pub mod Keeping
 pub mod Ends
 pub mod Leading
+pub mod Making

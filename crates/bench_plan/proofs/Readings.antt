@@ -1,20 +1,20 @@
 -- Readings one after another.
 use Rattle.std.proofs.Common.{◌≡◌, ◌≢◌, ◌<◌, ◌≤◌, ℕ, arith, inl, inr, Bool, true, false, List, length, Some, Result, Ok, Err, refl, ap, sym, subst, ◌∙◌}
 use Rattle.std.specs.Prelude.{◌⊎◌, IsTrue, IsErrAnd}
-use Rattle.bench_shelf.specs.Held.{Held}
+use Rattle.bench_shelf.specs.Held.{Held, Stays}
 use Rattle.soc_words.specs.Causes.{Rose}
 use Rattle.bench_plan.specs.Answers.{long_text, unread_text}
 use Rattle.bench_plan.specs.Readings.{Fault, Reading, gives, refuses, asks, followed, asking, judged}
-use Rattle.bench_plan.specs.Steps.{Asks, Comes, IsRefusal, IsRead, IsTooLong, IsUnread, Judges, Misses, Reads, Results, Stays, mapped}
+use Rattle.bench_plan.specs.Steps.{Asks, Comes, IsRefusal, IsRead, IsTooLong, IsUnread, Judges, Misses, ReadsBy, Results, mapped}
 use Rattle.bench_plan.specs.declared.stop.Stop.{Stop}
 use Rattle.bench_plan.specs.declared.stop.Stop.TheVariants.{Refused, Memory}
 
 ok_same : {A : Type 0} {a b : A} → ◌≡◌ {A = Result A Fault} (Ok a) (Ok b) → a ≡ b
 ok_same e = cc
 
--- a shelf that tells the same files
+-- a shelf that discloses the same files
 read_moved : {old mid : Held} (name : List ℕ) (limit : ℕ) (bytes : List ℕ) → Stays old mid → IsRead mid name limit bytes → IsRead old name limit bytes
-read_moved name limit bytes s r = (r.0, λ t. sym (s.files name) ∙ r.1 (subst IsTrue (sym s.told) t))
+read_moved name limit bytes s r = (r.0, λ t. sym (s.files name) ∙ r.1 (subst IsTrue (sym s.disclosure) t))
 
 pub comes_moved : {A : Type 0} {old mid : Held} (p : Reading A) (r : Result A Fault) → Stays old mid → Comes mid p r → Comes old p r
 comes_moved (gives a) r s c = c
@@ -51,23 +51,23 @@ asks_stop h (asks n l next) f name limit (inr d) = inr (d.0, d.1, asks_stop h (n
 
 -- why a file isn't read, after reads without a fault
 unread_moved : (old mid new : Held) (name : List ℕ) → Stays old mid → mid.read_faults ≡ old.read_faults → IsUnread mid new name → IsUnread old new name
-unread_moved old mid new name s e (inl u) = inl (subst IsTrue s.told u.0, sym (s.files name) ∙ u.1)
+unread_moved old mid new name s e (inl u) = inl (subst IsTrue s.disclosure u.0, sym (s.files name) ∙ u.1)
 unread_moved old mid new name s e (inr rose) = inr (subst (λ n. Rose n new.read_faults) e rose)
 
 too_long_moved : (old mid new : Held) (name : List ℕ) (limit : ℕ) → Stays old mid → mid.read_faults ≡ old.read_faults → IsTooLong mid new name limit → IsTooLong old new name limit
-too_long_moved old mid new name limit s e (inl u) = inl (subst IsTrue s.told u.0, (u.1.0, sym (s.files name) ∙ u.1.1, u.1.2))
-too_long_moved old mid new name limit s e (inr rose) = inr (sym s.told ∙ rose.0, subst (λ n. Rose n new.read_faults) e rose.1)
+too_long_moved old mid new name limit s e (inl u) = inl (subst IsTrue s.disclosure u.0, (u.1.0, sym (s.files name) ∙ u.1.1, u.1.2))
+too_long_moved old mid new name limit s e (inr rose) = inr (sym s.disclosure ∙ rose.0, subst (λ n. Rose n new.read_faults) e rose.1)
 
 pub stays_then : {old mid new : Held} → Stays old mid → Stays mid new → Stays old new
 stays_then s t = record {
-  told = t.told ∙ s.told;
+  disclosure = t.disclosure ∙ s.disclosure;
   files = λ q. t.files q ∙ s.files q;
   writes = t.writes ∙ s.writes;
   later = omega (arith, s.later, t.later);
 }
 
 pub stays_same : (h : Held) → Stays h h
-stays_same h = record { told = refl; files = λ q. refl; writes = refl; later = omega arith }
+stays_same h = record { disclosure = refl; files = λ q. refl; writes = refl; later = omega arith }
 
 misses_then : {A B : Type 0} (old mid new : Held) (p : Reading A) (f : A → Reading B) (a : A) (text : List ℕ) → Stays old mid → mid.read_faults ≡ old.read_faults
     → Comes old p (Ok a) → Misses mid new (f a) text → Misses old new (followed p f) text
@@ -102,33 +102,33 @@ results_stop old new p f Memory (inr y) = inr (y.0, y.1, asks_stop old p f y.0 y
 
 -- a reading, and then another
 pub reads_then : {A B : Type 0} {old mid new : Held} {p : Reading A} {a : A} (f : A → Reading B) (r : Result B Stop)
-    → Reads old mid p (Ok a) → Reads mid new (f a) r → Reads old new (followed p f) r
+    → ReadsBy old mid p (Ok a) → ReadsBy mid new (f a) r → ReadsBy old new (followed p f) r
 reads_then {old = old} {mid = mid} {new = new} {p = p} {a = a} f r x y = record { stays = stays_then x.stays y.stays; results = results_then old mid new p f a r x.stays x.results y.results }
 
 -- a reading that is stopped
-pub reads_stop : {A B : Type 0} {old new : Held} {p : Reading A} {stop : Stop} (f : A → Reading B) → Reads old new p (Err stop) → Reads old new (followed p f) (Err stop)
+pub reads_stop : {A B : Type 0} {old new : Held} {p : Reading A} {stop : Stop} (f : A → Reading B) → ReadsBy old new p (Err stop) → ReadsBy old new (followed p f) (Err stop)
 reads_stop {old = old} {new = new} {p = p} {stop = stop} f x = record { stays = x.stays; results = results_stop old new p f stop x.results }
 
 -- the exit of a `?`
 pub reads_exit : {A B : Type 0} {old new : Held} {p : Reading A} {stop : Stop} (f : A → Reading B) (r : Result B Stop) → IsErrAnd r (λ d. d ≡ stop)
-    → Reads old new p (Err stop) → Reads old new (followed p f) r
+    → ReadsBy old new p (Err stop) → ReadsBy old new (followed p f) r
 reads_exit f (Err d) h x = rw h (reads_stop f x)
 reads_exit f (Ok b) h x = absurd h
 
 pub reads_exit_as : {A B C : Type 0} {old new : Held} {p : Reading A} {stop : Stop} (f : A → Reading B) (g : C → B) (r : Result C Stop) → IsErrAnd r (λ d. d ≡ stop)
-    → Reads old new p (Err stop) → Reads old new (followed p f) (mapped g r)
+    → ReadsBy old new p (Err stop) → ReadsBy old new (followed p f) (mapped g r)
 reads_exit_as f g (Err d) h x = rw h (reads_stop f x)
 reads_exit_as f g (Ok b) h x = absurd h
 
 -- nothing is read
-pub reads_none : {A : Type 0} (h : Held) (a : A) → Reads h h (gives a) (Ok a)
+pub reads_none : {A : Type 0} (h : Held) (a : A) → ReadsBy h h (gives a) (Ok a)
 reads_none h a = record { stays = stays_same h; results = (refl, refl) }
 
-pub reads_gives : {A : Type 0} (h : Held) (a b : A) → b ≡ a → Reads h h (gives a) (Ok b)
+pub reads_gives : {A : Type 0} (h : Held) (a b : A) → b ≡ a → ReadsBy h h (gives a) (Ok b)
 reads_gives h a b e = rw e (reads_none h a)
 
 -- what was judged without a file
-pub reads_judged : {A : Type 0} (h : Held) (means : Result A Fault) (r : Result A Stop) → Judges means r → Reads h h (judged means) r
+pub reads_judged : {A : Type 0} (h : Held) (means : Result A Fault) (r : Result A Stop) → Judges means r → ReadsBy h h (judged means) r
 reads_judged h means (Ok a) j = rw j (reads_none h a)
 reads_judged h means (Err (Refused fault)) j = rw j.1 (record { stays = stays_same h; results = inl (refl, j.0, refl) })
 reads_judged h means (Err Memory) j = record { stays = stays_same h; results = inl refl }
@@ -139,53 +139,53 @@ judges_refused means fault (Refused f) three is r = (λ e. three (ap (λ x. x.st
 judges_refused means fault Memory three is r = tt
 
 -- a refusal before anything is read
-pub reads_refused : {A : Type 0} (h : Held) (fault : Fault) (stop : Stop) → fault.status ≢ 3 → IsRefusal fault stop → Reads {A = A} h h (refuses fault) (Err stop)
+pub reads_refused : {A : Type 0} (h : Held) (fault : Fault) (stop : Stop) → fault.status ≢ 3 → IsRefusal fault stop → ReadsBy {A = A} h h (refuses fault) (Err stop)
 reads_refused h fault (Refused f) three r = record { stays = stays_same h; results = inl (refl, λ e. three (ap (λ x. x.status) (sym r) ∙ e), ap Err r) }
 reads_refused h fault Memory three r = record { stays = stays_same h; results = inl refl }
 
 -- want of memory before anything is read
-pub reads_want : {A : Type 0} (h : Held) (p : Reading A) → Reads h h p (Err Memory)
+pub reads_want : {A : Type 0} (h : Held) (p : Reading A) → ReadsBy h h p (Err Memory)
 reads_want h p = record { stays = stays_same h; results = inl refl }
 
 -- the exit of a `?` on want of memory
-pub reads_want_exit : {A C : Type 0} (h : Held) (p : Reading A) (g : C → A) (r : Result C Stop) → IsErrAnd r (λ d. d ≡ Memory) → Reads h h p (mapped g r)
+pub reads_want_exit : {A C : Type 0} (h : Held) (p : Reading A) (g : C → A) (r : Result C Stop) → IsErrAnd r (λ d. d ≡ Memory) → ReadsBy h h p (mapped g r)
 reads_want_exit h p g (Err d) e = rw e (reads_want h p)
 reads_want_exit h p g (Ok c) e = absurd e
 
 -- a file that is read and then judged
 pub reads_meant : {A : Type 0} {old new : Held} {p : Reading (List ℕ)} {bytes : List ℕ} (means : List ℕ → Result A Fault) (r : Result A Stop)
-    → Reads old new p (Ok bytes) → Judges (means bytes) r → Reads old new (followed p (λ b. judged (means b))) r
+    → ReadsBy old new p (Ok bytes) → Judges (means bytes) r → ReadsBy old new (followed p (λ b. judged (means b))) r
 reads_meant {new = new} {bytes = bytes} means r x j = reads_then (λ b. judged (means b)) r x (reads_judged new (means bytes) r j)
 
 -- a file that is read
 pub reads_file : {old new : Held} (name : List ℕ) (limit : ℕ) (bytes : List ℕ) → Stays old new → new.read_faults ≡ old.read_faults → length bytes ≤ limit
-    → (IsTrue old.told → old.file name ≡ Some bytes) → Reads old new (asking name limit) (Ok bytes)
-reads_file name limit bytes s e le told = record { stays = s; results = (e, (bytes, (le, told), refl)) }
+    → (IsTrue old.discloses → old.file name ≡ Some bytes) → ReadsBy old new (asking name limit) (Ok bytes)
+reads_file name limit bytes s e le discloses = record { stays = s; results = (e, (bytes, (le, discloses), refl)) }
 
 -- a file that isn't read
 pub reads_unread : {old new : Held} (name : List ℕ) (limit : ℕ) (stop : Stop) → Stays old new → IsRefusal (record { status = 3; text = unread_text name }) stop → IsUnread old new name
-    → Reads old new (asking name limit) (Err stop)
+    → ReadsBy old new (asking name limit) (Err stop)
 reads_unread name limit (Refused fault) s m u =
     record { stays = s; results = inr (ap (λ f. f.status) m, record { name = name; limit = limit; asked = inl (refl, refl); why = inl (ap (λ f. f.text) m, u) }) }
 reads_unread name limit Memory s m u = record { stays = s; results = inr (name, limit, inl (refl, refl)) }
 
 pub reads_too_long : {old new : Held} (name : List ℕ) (limit : ℕ) (stop : Stop) → Stays old new → IsRefusal (record { status = 3; text = long_text name }) stop → IsTooLong old new name limit
-    → Reads old new (asking name limit) (Err stop)
+    → ReadsBy old new (asking name limit) (Err stop)
 reads_too_long name limit (Refused fault) s m u =
     record { stays = s; results = inr (ap (λ f. f.status) m, record { name = name; limit = limit; asked = inl (refl, refl); why = inr (ap (λ f. f.text) m, u) }) }
 reads_too_long name limit Memory s m u = record { stays = s; results = inr (name, limit, inl (refl, refl)) }
 
-pub reads_wanting : {old new : Held} (name : List ℕ) (limit : ℕ) → Stays old new → Reads {A = List ℕ} old new (asking name limit) (Err Memory)
+pub reads_wanting : {old new : Held} (name : List ℕ) (limit : ℕ) → Stays old new → ReadsBy {A = List ℕ} old new (asking name limit) (Err Memory)
 reads_wanting name limit s = record { stays = s; results = inr (name, limit, inl (refl, refl)) }
 
--- a file is too long, of a shelf that tells or of one that doesn't
-pub too_long : (old new : Held) (name : List ℕ) (limit : ℕ) → (IsTrue old.told → ((bytes : List ℕ) × (old.file name ≡ Some bytes) × (limit < length bytes)) × (new.read_faults ≡ old.read_faults))
-    → ((old.told ≡ true) ⊎ Rose old.read_faults new.read_faults) → IsTooLong old new name limit
-too_long old new name limit told untold = by_told old.told refl
+-- a file is too long, of a shelf that discloses its files or of one that doesn't
+pub too_long : (old new : Held) (name : List ℕ) (limit : ℕ) → (IsTrue old.discloses → ((bytes : List ℕ) × (old.file name ≡ Some bytes) × (limit < length bytes)) × (new.read_faults ≡ old.read_faults))
+    → ((old.discloses ≡ true) ⊎ Rose old.read_faults new.read_faults) → IsTooLong old new name limit
+too_long old new name limit discloses undisclosed = by_disclosed old.discloses refl
   where
-    by_told : (b : Bool) → old.told ≡ b → IsTooLong old new name limit
-    by_told true e = inl (e, (told (e)).0)
-    by_told false e = inr (e, elim untold [ inl t ↦ absurd (not_both (sym e ∙ t)) | inr rose ↦ rose ])
+    by_disclosed : (b : Bool) → old.discloses ≡ b → IsTooLong old new name limit
+    by_disclosed true e = inl (e, (discloses (e)).0)
+    by_disclosed false e = inr (e, elim undisclosed [ inl t ↦ absurd (not_both (sym e ∙ t)) | inr rose ↦ rose ])
       where
         not_both : false ≡ true → ⊥
         not_both x = absurd (cc)

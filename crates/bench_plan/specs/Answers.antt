@@ -1,4 +1,4 @@
--- The answer of a plan over given files.
+-- The answer of a plan over given files (definitions).
 use Rattle.std.specs.Prelude.{ℕ, ◌++◌, List, length, Option, Some, None, codes, nat_lt, if◌then◌else◌, Result, Ok, Err}
 use Rattle.soc_words.specs.Text.{line}
 use Rattle.bench_plan.specs.Readings.{Fault, Reading, gives, refuses, asks}

@@ -1,4 +1,4 @@
--- A call that tells an answer.
+-- A call that tells an answer (definitions).
 use Rattle.std.specs.Prelude.{◌≡◌, ◌≢◌, ℕ, ◌≤◌, ◌⊎◌, IsTrue, List, Option, Some, None}
 use Rattle.bench_shelf.specs.Held.{Held}
 use Rattle.soc_words.specs.Causes.{Rose, appended, AppendsBeginning}
@@ -17,10 +17,22 @@ pub record Call : Type 0 where
   pub puts_after : ℕ
   pub status : ℕ
 
+-- the call over this shelf and this sink, by what the shelf holds, what the sink has written and how often it has failed
+abbrev pub call_of : {S O : Type 0} → (S → Held) → (O → Option (List ℕ)) → (O → ℕ) → S → S → O → O → ℕ → Call
+call_of held written faults shelf shelf_after out out_after status = record {
+  before = held shelf;
+  after = held shelf_after;
+  written = written out;
+  written_after = written out_after;
+  puts = faults out;
+  puts_after = faults out_after;
+  status = status;
+}
+
 -- the file, if there is one, has its bytes
 abbrev pub IsMade : Option File → Held → Type 0
 IsMade None h = Unit {0}
-IsMade (Some f) h = IsTrue h.told → h.file f.name ≡ Some f.bytes
+IsMade (Some f) h = IsTrue h.discloses → h.file f.name ≡ Some f.bytes
 
 -- only this file may have changed, and nothing was written where there is none
 abbrev pub ChangesOnly : Option File → Held → Held → Type 0
@@ -33,22 +45,22 @@ WritesText text c = AppendsBeginning c.written c.written_after text × ((Rose c.
 
 -- an answer is told: with its status, or with 9, or with 7 where its status is 0. A beginning of the text is appended, and all of it where
 -- memory is had and the sink doesn't fail; the file is made, where memory is had and the shelf doesn't fail
-pub record Tells (wanted : Answer) (c : Call) : Type 0 where
-  pub told : c.after.told ≡ c.before.told
+pub record Tells (told : Answer) (c : Call) : Type 0 where
+  pub disclosure : c.after.discloses ≡ c.before.discloses
   pub reads : c.after.read_faults ≡ c.before.read_faults
   pub writes_later : c.before.write_faults ≤ c.after.write_faults
   pub puts_later : c.puts ≤ c.puts_after
-  pub statuses : (c.status ≡ wanted.status) ⊎ ((c.status ≡ 9) ⊎ ((wanted.status ≡ 0) × (c.status ≡ 7)))
-  pub beginning : AppendsBeginning c.written c.written_after wanted.text
-  pub whole : c.status ≡ wanted.status → (c.written_after ≡ appended c.written wanted.text) ⊎ Rose c.puts c.puts_after
-  pub made : c.status ≡ wanted.status → IsMade wanted.out c.after
-  pub cut_short : c.status ≡ 7 → Rose c.before.write_faults c.after.write_faults ⊎ (Rose c.puts c.puts_after × IsMade wanted.out c.after)
+  pub statuses : (c.status ≡ told.status) ⊎ ((c.status ≡ 9) ⊎ ((told.status ≡ 0) × (c.status ≡ 7)))
+  pub beginning : AppendsBeginning c.written c.written_after told.text
+  pub whole : c.status ≡ told.status → (c.written_after ≡ appended c.written told.text) ⊎ Rose c.puts c.puts_after
+  pub made : c.status ≡ told.status → IsMade told.out c.after
+  pub cut_short : c.status ≡ 7 → Rose c.before.write_faults c.after.write_faults ⊎ (Rose c.puts c.puts_after × IsMade told.out c.after)
   pub no_fault : c.status ≡ 0 → (c.puts_after ≡ c.puts) × (c.after.write_faults ≡ c.before.write_faults)
-  pub changes : ChangesOnly wanted.out c.before c.after
+  pub changes : ChangesOnly told.out c.before c.after
 
--- an answer without a file is told to a sink, over any shelf
-abbrev pub Says : Answer → Option (List ℕ) → Option (List ℕ) → ℕ → ℕ → ℕ → Type 0
-Says wanted written written_after puts puts_after status = (h : Held) → Tells wanted (record {
+-- an answer without a file is told to a sink, whatever shelf stands beside it
+abbrev pub TellsText : Answer → Option (List ℕ) → Option (List ℕ) → ℕ → ℕ → ℕ → Type 0
+TellsText told written written_after puts puts_after status = (h : Held) → Tells told (record {
   before = h;
   after = h;
   written = written;
@@ -58,8 +70,14 @@ Says wanted written written_after puts puts_after status = (h : Held) → Tells 
   status = status;
 })
 
+abbrev pub Says : {O : Type 0} → Answer → (O → Option (List ℕ)) → (O → ℕ) → O → O → ℕ → Type 0
+Says told written faults old new status = TellsText told (written old) (written new) (faults old) (faults new) status
+
 -- why a job isn't done is told: a refusal by its line, want of memory by its status alone
 abbrev pub TellsStop : Stop → Option (List ℕ) → Option (List ℕ) → ℕ → ℕ → ℕ → Type 0
 TellsStop (Refused fault) written written_after puts puts_after status =
-    (fault.status ≢ 7) × (fault.status ≢ 9) × Says (refused fault) written written_after puts puts_after status
+    (fault.status ≢ 7) × (fault.status ≢ 9) × TellsText (refused fault) written written_after puts puts_after status
 TellsStop Memory written written_after puts puts_after status = (status ≡ 9) × (written_after ≡ written) × (puts_after ≡ puts)
+
+abbrev pub Stops : {O : Type 0} → Stop → (O → Option (List ℕ)) → (O → ℕ) → O → O → ℕ → Type 0
+Stops stop written faults old new status = TellsStop stop (written old) (written new) (faults old) (faults new) status

@@ -1,4 +1,4 @@
--- What a reading may come to, whatever the files are.
+-- What a reading may come to, whatever the files are (definitions).
 use Rattle.std.specs.Prelude.{ℕ, List, Result, Ok, Err}
 use Rattle.bench_plan.specs.Readings.{Fault, Reading, gives, refuses, asks}
 

@@ -1,4 +1,4 @@
--- What is read for a job, one file after another, and what comes of it.
+-- What is read for a job, one file after another, and what comes of it (definitions).
 use Rattle.std.specs.Prelude.{ℕ, List, Result, Ok, Err}
 
 -- why a job isn't done: the status, and the line that is written first

@@ -1,15 +1,15 @@
--- What reading for a job comes to.
+-- What reading for a job comes to (definitions).
 use Rattle.std.specs.Prelude.{◌≡◌, ◌≢◌, ℕ, ◌<◌, ◌≤◌, ◌⊎◌, false, IsTrue, List, length, Option, Some, None, Result, Ok, Err}
-use Rattle.bench_shelf.specs.Held.{Held}
+use Rattle.bench_shelf.specs.Held.{Held, Stays}
 use Rattle.soc_words.specs.Causes.{Rose}
 use Rattle.bench_plan.specs.Answers.{long_text, unread_text}
 use Rattle.bench_plan.specs.Readings.{Fault, Reading, gives, refuses, asks}
 use Rattle.bench_plan.specs.declared.stop.Stop.{Stop}
 use Rattle.bench_plan.specs.declared.stop.Stop.TheVariants.{Refused, Memory}
 
--- these are the bytes that were read of a file, which is within its limit; of a shelf that tells, they are the file's
+-- these are the bytes that were read of a file, which is within its limit; of a shelf that discloses its files, they are the file's
 abbrev pub IsRead : Held → List ℕ → ℕ → List ℕ → Type 0
-IsRead h name limit bytes = (length bytes ≤ limit) × (IsTrue h.told → h.file name ≡ Some bytes)
+IsRead h name limit bytes = (length bytes ≤ limit) × (IsTrue h.discloses → h.file name ≡ Some bytes)
 
 -- over the files as they were read the reading comes to this
 abbrev pub Comes : {A : Type 0} → Held → Reading A → Result A Fault → Type 0
@@ -25,16 +25,16 @@ Asks h (asks n l next) name limit = ((name ≡ n) × (limit ≡ l)) ⊎ ((bytes 
 
 -- why a file isn't read: it isn't there, or a read failed
 abbrev pub IsUnread : Held → Held → List ℕ → Type 0
-IsUnread old new name = (IsTrue old.told × (old.file name ≡ None)) ⊎ Rose old.read_faults new.read_faults
+IsUnread old new name = (IsTrue old.discloses × (old.file name ≡ None)) ⊎ Rose old.read_faults new.read_faults
 
 -- the file is there and longer than the limit
 abbrev pub IsLong : ℕ → Option (List ℕ) → Type 0
 IsLong limit file = (bytes : List ℕ) × (file ≡ Some bytes) × (limit < length bytes)
 
--- why a file is refused as too long: it is, or the shelf doesn't tell and a read failed
+-- why a file is refused as too long: it is, or the shelf discloses no file and a read failed
 abbrev pub IsTooLong : Held → Held → List ℕ → ℕ → Type 0
 IsTooLong old new name limit =
-    (IsTrue old.told × IsLong limit (old.file name)) ⊎ ((old.told ≡ false) × Rose old.read_faults new.read_faults)
+    (IsTrue old.discloses × IsLong limit (old.file name)) ⊎ ((old.discloses ≡ false) × Rose old.read_faults new.read_faults)
 
 -- the line of a file that isn't read, and why. The reading asks for it, and refuses no file before it
 pub record Misses {A : Type 0} (old new : Held) (p : Reading A) (text : List ℕ) : Type 0 where
@@ -50,17 +50,14 @@ Results old new p (Err (Refused fault)) =
     ((new.read_faults ≡ old.read_faults) × (fault.status ≢ 3) × Comes old p (Err fault)) ⊎ ((fault.status ≡ 3) × Misses old new p fault.text)
 Results old new p (Err Memory) = (new.read_faults ≡ old.read_faults) ⊎ ((name : List ℕ) × (limit : ℕ) × Asks old p name limit)
 
--- no file is changed
-pub record Stays (old new : Held) : Type 0 where
-  pub told : new.told ≡ old.told
-  pub files : (q : List ℕ) → new.file q ≡ old.file q
-  pub writes : new.write_faults ≡ old.write_faults
-  pub later : old.read_faults ≤ new.read_faults
-
--- the call reads what the reading asks for
-pub record Reads {A : Type 0} (old new : Held) (p : Reading A) (result : Result A Stop) : Type 0 where
+-- what the reading asks for was read between two moments of a shelf, and no file was changed
+pub record ReadsBy {A : Type 0} (old new : Held) (p : Reading A) (result : Result A Stop) : Type 0 where
   pub stays : Stays old new
   pub results : Results old new p result
+
+-- a call that reads what the reading asks for, by what the shelf holds
+abbrev pub Reads : {S A : Type 0} → (S → Held) → S → S → Reading A → Result A Stop → Type 0
+Reads held old new p result = ReadsBy (held old) (held new) p result
 
 -- a result, with its value changed
 abbrev pub mapped : {A B : Type 0} → (A → B) → Result A Stop → Result B Stop

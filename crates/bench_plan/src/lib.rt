@@ -4,7 +4,9 @@
 pub mod file;
 pub mod stop;
 pub mod tell;
+#[cfg(test)]
+mod tests;
 
-pub use file::fetch;
+pub use file::{fetch, fetch_each};
 pub use stop::{Refusal, Stop, refused};
 pub use tell::{made, said, stopped};

@@ -1,9 +1,8 @@
 //! Telling an answer.
 ghost use Rattle.std.specs.Prelude.{◌≡◌, ◌≢◌, ◌<◌, ℕ, List, Option, None, Some};
-ghost use Rattle.bench_shelf.specs.Held.{Held};
-ghost use Rattle.bench_shelf.specs.Sink.{Writes};
+ghost use Rattle.bench_shelf.specs.Sink.{Appending};
 ghost use Rattle.bench_plan.specs.Answers.{Answer, done, refused};
-ghost use Rattle.bench_plan.specs.Calls.{Call, Says, Tells, TellsStop};
+ghost use Rattle.bench_plan.specs.Calls.{Says, Stops, Tells, TellsText, call_of};
 
 use crate::stop::{Refusal, Stop};
 use bench_shelf::{Shelf, ShelfFault, Sink, SinkFault};
@@ -12,7 +11,7 @@ use bench_shelf::{Shelf, ShelfFault, Sink, SinkFault};
 fn refuse<O: Sink>(refusal: &Refusal, out: &mut O) -> u8
     ensures no_failure { refusal.now.status ≢ 7 }
     ensures no_want { refusal.now.status ≢ 9 }
-    ensures says { Says (refused refusal.now) (O.written out.old) (O.written out.new) (O.faults out.old) (O.faults out.new) result }
+    ensures says { Says (refused refusal.now) O.written O.faults out.old out.new result }
 {
     let status = refusal.status();
     match out.put(refusal.line()) {
@@ -23,7 +22,7 @@ fn refuse<O: Sink>(refusal: &Refusal, out: &mut O) -> u8
 
 /// Tells why a job isn't done.
 pub fn stopped<O: Sink>(stop: &Stop, out: &mut O) -> u8
-    ensures { TellsStop stop.now (O.written out.old) (O.written out.new) (O.faults out.old) (O.faults out.new) result }
+    ensures { Stops stop.now O.written O.faults out.old out.new result }
 {
     match stop {
         Stop::Refused(refusal) => refuse(refusal, out),
@@ -33,8 +32,8 @@ pub fn stopped<O: Sink>(stop: &Stop, out: &mut O) -> u8
 
 /// The status of a text that was written to a sink.
 pub fn said(wrote: Result<(), SinkFault>) -> u8
-    ensures { (text : List ℕ) (old new : Option (List ℕ)) (before now : ℕ) → Writes old new before now text wrote
-        → Says (done (record { text = text; out = None })) old new before now result }
+    ensures { (text : List ℕ) (old new : Option (List ℕ)) (before now : ℕ) → Appending old new before now text wrote
+        → TellsText (done (record { text = text; out = None })) old new before now result }
 {
     match wrote {
         Ok(()) => 0,
@@ -51,19 +50,14 @@ pub fn made<S: Shelf, O: Sink>(
     shelf: &mut S,
     out: &mut O,
 ) -> u8
-    ensures { Tells (done (record { text = line.now; out = Some (record { name = name.now; bytes = bytes.now }) })) (record {
-      before = S.held shelf.old;
-      after = S.held shelf.new;
-      written = O.written out.old;
-      written_after = O.written out.new;
-      puts = O.faults out.old;
-      puts_after = O.faults out.new;
-      status = result;
-    }) }
+    ensures { Tells (done (record { text = line.now; out = Some (record { name = name.now; bytes = bytes.now }) }))
+        (call_of S.held O.written O.faults shelf.old shelf.new out.old out.new result) }
 {
     match shelf.write(name, bytes) {
         Ok(()) => said(out.put(line)),
         Err(ShelfFault::Memory) => 9,
-        Err(_) => 7,
+        Err(ShelfFault::Failed) => 7,
+        // no write answers so
+        Err(ShelfFault::Long { .. }) => 7,
     }
 }
