@@ -1,4 +1,4 @@
--- What the files of a job mean, and what is read for each.
+-- What the files of a job mean, and what is read for each (definitions).
 use Rattle.std.specs.Prelude.{ℕ, List, length, Option, Some, None, Result, Ok, Err, nat_lt, if◌then◌else◌}
 use Rattle.std.specs.Str.{is_utf8}
 use Rattle.bench_plan.specs.Readings.{Fault, Reading, asking, followed, gives, judged}

@@ -1,4 +1,4 @@
--- The lines of refusals.
+-- The lines of refusals (definitions).
 use Rattle.std.specs.Prelude.{ℕ, List, ◌++◌, codes, decimal}
 use Rattle.soc_words.specs.Text.{line}
 use Rattle.bench_plan.specs.Readings.{Fault}
@@ -25,18 +25,18 @@ unfoldable pub range_text : List ℕ → List ℕ
 range_text key = line (codes "error chip range " ++ key)
 
 -- what is wrong in a line of a script; no line has the kind that says that memory was wanted
-abbrev pub kind_name : ScriptKind → List ℕ
-kind_name kind.Word = codes "word"
-kind_name kind.Number = codes "number"
-kind_name kind.Order = codes "order"
-kind_name kind.Hex = codes "hex"
-kind_name kind.Pin = codes "pin"
-kind_name kind.Text = codes "text"
-kind_name kind.Memory = codes "memory"
+abbrev pub fault_kind_name : ScriptKind → List ℕ
+fault_kind_name kind.Word = codes "word"
+fault_kind_name kind.Number = codes "number"
+fault_kind_name kind.Order = codes "order"
+fault_kind_name kind.Hex = codes "hex"
+fault_kind_name kind.Pin = codes "pin"
+fault_kind_name kind.Text = codes "text"
+fault_kind_name kind.Memory = codes "memory"
 
 -- the first faulty line of a script
 unfoldable pub line_text : ScriptFault → List ℕ
-line_text fault = line (codes "error script line " ++ decimal fault.line ++ codes " " ++ kind_name fault.kind)
+line_text fault = line (codes "error script line " ++ decimal fault.line ++ codes " " ++ fault_kind_name fault.kind)
 
 abbrev pub size_fault : ℕ → Fault
 size_fault bytes = record { status = 4; text = size_text bytes }

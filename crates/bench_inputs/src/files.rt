@@ -17,7 +17,7 @@ pub fn read_settings<S: Shelf>(
     name: Option<&str>,
     shelf: &mut S,
 ) -> Result<Setup, Stop>
-    ensures { Reads (S.held shelf.old) (S.held shelf.new) (settings_reading (option_map (λ s. s.now) name.entry)) (mapped values_of result) }
+    ensures { Reads S.held shelf.old shelf.new (settings_reading (option_map (λ s. s.now) name.entry)) (mapped values_of result) }
 {
     let Some(name) = name else {
         return Ok(Setup::standard());
@@ -33,7 +33,7 @@ pub fn read_image<S: Shelf>(
     name: &str,
     shelf: &mut S,
 ) -> Result<Vec<u8>, Stop>
-    ensures reads { Reads (S.held shelf.old) (S.held shelf.new) (image_reading room name.now) (mapped (λ v. v.items) result) }
+    ensures reads { Reads S.held shelf.old shelf.new (image_reading room name.now) (mapped (λ v. v.items) result) }
     ensures fits { IfOk result (λ v. length v.items ≤ room) }
 {
     let image = fetch(alloc, name, 2_097_152, shelf)?;
@@ -57,7 +57,7 @@ pub fn read_script_file<S: Shelf>(
     name: Option<&str>,
     shelf: &mut S,
 ) -> Result<Script, Stop>
-    ensures { Reads (S.held shelf.old) (S.held shelf.new) (script_reading (option_map (λ s. s.now) name.entry)) result }
+    ensures { Reads S.held shelf.old shelf.new (script_reading (option_map (λ s. s.now) name.entry)) result }
 {
     let Some(name) = name else {
         return Ok(no_script(alloc));

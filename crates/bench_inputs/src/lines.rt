@@ -1,7 +1,7 @@
 //! The lines of refusals.
 ghost use Rattle.std.specs.Prelude.{◌≡◌, ℕ, ◌+◌, ◌≤◌, ◌++◌, List, IfOk, codes, length};
 ghost use Rattle.soc_words.specs.Text.{line};
-ghost use Rattle.bench_inputs.specs.Lines.{kind_name, line_fault, line_text, range_text, size_fault, size_text};
+ghost use Rattle.bench_inputs.specs.Lines.{fault_kind_name, line_fault, line_text, range_text, size_fault, size_text};
 ghost use Rattle.bench_plan.specs.Steps.{IsRefusal};
 
 use bench_plan::{Refusal, Stop, refused};
@@ -52,7 +52,7 @@ pub fn size_refused(alloc: Global, size: usize) -> Stop
 
 /// The word for what is wrong in a line of a script.
 fn kind_word(kind: ScriptKind) -> &'static [u8]
-    ensures word { result.now ≡ kind_name kind }
+    ensures word { result.now ≡ fault_kind_name kind }
     ensures short { length result.now ≤ 6 }
 {
     match kind {
