@@ -3,7 +3,7 @@ use Rattle.std.proofs.Common.{◌≡◌, ◌+◌, ℕ, List, ◌++◌, Option, R
 use Rattle.std.specs.Result.{IsErrAnd, OnOk}
 use Rattle.std.proofs.lemmas.Grind.{flat_map-append}
 use Rattle.bench_shelf.specs.declared.sink.SinkFault.{SinkFault}
-use Rattle.bench_shelf.specs.Sink.{Writes}
+use Rattle.bench_shelf.specs.Sink.{Appending}
 use Rattle.bench_shelf.proofs.Writing.{writes_exit, writes_then}
 use Rattle.chip_whole.specs.Chip.{Board, State, after}
 use Rattle.chip_whole.specs.Next.{next_events}
@@ -19,16 +19,16 @@ text_more board s m n total sum =
 
 -- the events of more cycles were written
 pub more_written : {a b c : Option (List ℕ)} {f g h : ℕ} {x : Unit {0}} (board : Board) (s : State) (m n total : ℕ) (r : Result (Unit {0}) SinkFault) → m + n ≡ total
-    → Writes a b f g (events_text (next_events board s m)) (Ok x) → Writes b c g h (events_text (next_events board (after board s m) n)) r
-    → Writes a c f h (events_text (next_events board s total)) r
+    → Appending a b f g (events_text (next_events board s m)) (Ok x) → Appending b c g h (events_text (next_events board (after board s m) n)) r
+    → Appending a c f h (events_text (next_events board s total)) r
 more_written {a = a} {c = c} {f = f} {h = h} board s m n total r sum p q =
-    subst (λ t. Writes a c f h t r) (text_more board s m n total sum) (writes_then r p q)
+    subst (λ t. Appending a c f h t r) (text_more board s m n total sum) (writes_then r p q)
 
 -- more was to come
 pub events_cut : {a c : Option (List ℕ)} {f h : ℕ} {e : SinkFault} (board : Board) (s : State) (m rest total : ℕ) (r : Result (Unit {0}) SinkFault) → m + rest ≡ total
-    → IsErrAnd r (λ d. d ≡ e) → Writes a c f h (events_text (next_events board s m)) (Err e) → Writes a c f h (events_text (next_events board s total)) r
+    → IsErrAnd r (λ d. d ≡ e) → Appending a c f h (events_text (next_events board s m)) (Err e) → Appending a c f h (events_text (next_events board s total)) r
 events_cut {a = a} {c = c} {f = f} {h = h} board s m rest total r sum at p =
-    subst (λ t. Writes a c f h t r) (text_more board s m rest total sum) (writes_exit (events_text (next_events board (after board s m) rest)) r at p)
+    subst (λ t. Appending a c f h t r) (text_more board s m rest total sum) (writes_exit (events_text (next_events board (after board s m) rest)) r at p)
 
 -- a chip after m cycles that goes on for n more, where the run isn't cut
 pub stands_on : {C : Type 0} (stands : Board → C → State → Type 0) (first chip next : C) (m n total : ℕ) (r : Result (Unit {0}) SinkFault)

@@ -1,4 +1,4 @@
--- The two memories of a hub, and where each begins.
+-- The two memories of a hub, and where each begins (definitions).
 use Rattle.std.specs.Prelude.{ℕ, List}
 use Rattle.chip_hub.specs.State.{State}
 use Rattle.bench_report.specs.declared.bank.Bank.{Bank}

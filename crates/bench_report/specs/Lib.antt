@@ -1,3 +1,2 @@
 pub mod Bank
 pub mod Report
-pub mod Standing

@@ -1,4 +1,4 @@
--- The text of a report.
+-- The text of a report (definitions).
 use Rattle.std.specs.Prelude.{◌==◌, ℕ, ◌+◌, ◌*◌, ◌/◌, ◌%◌, List, [], ◌∷◌, ◌++◌, length, slice_index, slice_range, codes, decimal, if◌then◌else◌}
 use Rattle.std.specs.List.{flat_map, list_all}
 use Rattle.hex.specs.Hex.{encode_lower}
@@ -35,12 +35,12 @@ unit_name unit =
     else if unit == 4 then codes "gpio" else if unit == 5 then codes "pwm" else if unit == 6 then codes "slink"
     else if unit == 7 then codes "wdt" else codes "hub"
 
-abbrev pub kind_name : EventKind → List ℕ
-kind_name Tx = codes "tx"
-kind_name Out = codes "out"
-kind_name Word = codes "word"
-kind_name Last = codes "last"
-kind_name Fire = codes "fire"
+abbrev pub event_kind_name : EventKind → List ℕ
+event_kind_name Tx = codes "tx"
+event_kind_name Out = codes "out"
+event_kind_name Word = codes "word"
+event_kind_name Last = codes "last"
+event_kind_name Fire = codes "fire"
 
 -- a UART's value is a byte, in two digits; all else is a word, in eight
 abbrev pub value_text : ℕ → ℕ → List ℕ
@@ -50,7 +50,7 @@ value_text unit value =
 
 unfoldable pub event_text : Event → List ℕ
 event_text e =
-    line (decimal e.cycle ++ codes " " ++ unit_name e.unit ++ codes " " ++ kind_name e.kind ++ codes " "
+    line (decimal e.cycle ++ codes " " ++ unit_name e.unit ++ codes " " ++ event_kind_name e.kind ++ codes " "
     ++ value_text e.unit e.value)
 
 -- the lines of events, in their order

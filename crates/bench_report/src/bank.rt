@@ -1,7 +1,7 @@
 //! The bytes of the memories, row by row.
 ghost use Rattle.std.specs.Prelude.{◌≡◌, ℕ, ◌+◌, ◌*◌, ◌/◌, ◌%◌, ◌<◌, ◌≤◌, ◌++◌, List, length, slice_range};
 ghost use Rattle.bench_report.specs.Bank.{base_of, bytes_of};
-ghost use Rattle.bench_report.specs.Standing.{ForEach};
+ghost use Rattle.chip_whole.specs.Stands.{ForEach};
 
 use chip_net::Chip;
 use chip_whole::Standing;
@@ -40,7 +40,7 @@ impl Bank {
 
     /// The number of rows of sixteen bytes.
     pub fn rows(self, chip: &Chip) -> u32
-        ensures value { ForEach ⟦<Chip as Standing>⟧.stands chip.now (λ s. result ≡ length (bytes_of s.hub self) / 16) }
+        ensures value { ForEach ⟦<Chip as Standing>⟧.stands chip.now (λ _ s. result ≡ length (bytes_of s.hub self) / 16) }
         ensures few { result ≤ 65536 }
     {
         match self {
@@ -53,7 +53,7 @@ impl Bank {
     fn word(self, chip: &Chip, at: u32) -> [u8; 4]
         requires place { at % 4 ≡ 0 }
         requires below { at < 1048576 }
-        ensures { ForEach ⟦<Chip as Standing>⟧.stands chip.now (λ s. at + 4 ≤ length (bytes_of s.hub self) → result ≡ slice_range (bytes_of s.hub self) at (at + 4)) }
+        ensures { ForEach ⟦<Chip as Standing>⟧.stands chip.now (λ _ s. at + 4 ≤ length (bytes_of s.hub self) → result ≡ slice_range (bytes_of s.hub self) at (at + 4)) }
     {
         match chip.word(self.base() + at) {
             Some(word) => word.to_le_bytes(),
@@ -64,7 +64,7 @@ impl Bank {
     /// The row of sixteen bytes of this number.
     pub fn row(self, chip: &Chip, number: u32) -> [u8; 16]
         requires below { number < 65536 }
-        ensures { ForEach ⟦<Chip as Standing>⟧.stands chip.now (λ s. 16 * number + 16 ≤ length (bytes_of s.hub self)
+        ensures { ForEach ⟦<Chip as Standing>⟧.stands chip.now (λ _ s. 16 * number + 16 ≤ length (bytes_of s.hub self)
             → result ≡ slice_range (bytes_of s.hub self) (16 * number) (16 * number + 16)) }
     {
         let at = 16 * number;

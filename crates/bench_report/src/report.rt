@@ -5,8 +5,8 @@ ghost use Rattle.hex.specs.Hex.{encode_lower};
 ghost use Rattle.soc_words.specs.Text.{line, hex_word, joined_below};
 ghost use Rattle.bench_shelf.specs.Sink.{Writes};
 ghost use Rattle.bench_report.specs.Bank.{base_of, bytes_of};
-ghost use Rattle.bench_report.specs.Report.{cycles_text, unit_name, kind_name, value_text, event_text, events_text, boot_text, phase_text, hart_text, register_text, register_text_in, hart_lines_text, unless_parked, row_text, row_text_in, memory_text, end_text};
-ghost use Rattle.bench_report.specs.Standing.{ForEach};
+ghost use Rattle.bench_report.specs.Report.{cycles_text, unit_name, event_kind_name, value_text, event_text, events_text, boot_text, phase_text, hart_text, register_text, register_text_in, hart_lines_text, unless_parked, row_text, row_text_in, memory_text, end_text};
+ghost use Rattle.chip_whole.specs.Stands.{ForEach};
 
 use crate::bank::Bank;
 use bench_shelf::{Sink, SinkFault};
@@ -43,8 +43,8 @@ fn unit_name(unit: u8) -> &'static str
     }
 }
 
-fn kind_name(kind: EventKind) -> &'static str
-    ensures name { result.now ≡ kind_name kind }
+fn event_kind_name(kind: EventKind) -> &'static str
+    ensures name { result.now ≡ event_kind_name kind }
     ensures short { length result.now ≤ 4 }
 {
     match kind {
@@ -74,7 +74,7 @@ fn event_line(event: &Event) -> Line
     ensures { result ≡ event_text event.now }
 {
     let unit = unit_name(event.unit);
-    let kind = kind_name(event.kind);
+    let kind = event_kind_name(event.kind);
     let mut line = Line::new();
     line.push_number(event.cycle);
     line.push(b" ");
@@ -173,7 +173,7 @@ fn row_line(address: u32, row: &[u8; 16]) -> Line
 }
 
 pub fn put_line<O: Sink>(line: &Line, out: &mut O) -> Result<(), SinkFault>
-    ensures { Writes (O.written out.old) (O.written out.new) (O.faults out.old) (O.faults out.new) line.now result }
+    ensures { Writes O.written O.faults out.old out.new line.now result }
 {
     out.put(line.as_slice())
 }
@@ -181,7 +181,7 @@ pub fn put_line<O: Sink>(line: &Line, out: &mut O) -> Result<(), SinkFault>
 /// Writes the line of a register, and nothing where it is zero.
 #[tactic(auto, using(bench_shelf::proofs::Writing::writes_begin), unfolding(crate::specs::Report::register_text))]
 fn put_register<O: Sink>(number: u32, value: u32, out: &mut O) -> Result<(), SinkFault>
-    ensures { Writes (O.written out.old) (O.written out.new) (O.faults out.old) (O.faults out.new) (register_text number value) result }
+    ensures { Writes O.written O.faults out.old out.new (register_text number value) result }
 {
     if value == 0 {
         return Ok(());
@@ -190,8 +190,7 @@ fn put_register<O: Sink>(number: u32, value: u32, out: &mut O) -> Result<(), Sin
 }
 
 fn put_registers<O: Sink>(regs: &[u32; 32], out: &mut O) -> Result<(), SinkFault>
-    ensures { Writes (O.written out.old) (O.written out.new) (O.faults out.old) (O.faults out.new)
-        (joined_below (register_text_in regs.now) 32) result }
+    ensures { Writes O.written O.faults out.old out.new (joined_below (register_text_in regs.now) 32) result }
 {
     for number in 0..32u32 {
         put_register(number, regs[number as usize], out)?;
@@ -201,8 +200,7 @@ fn put_registers<O: Sink>(regs: &[u32; 32], out: &mut O) -> Result<(), SinkFault
 
 /// Writes the line of a hart and those of its registers.
 fn put_hart<O: Sink>(number: u8, view: &HartView, out: &mut O) -> Result<(), SinkFault>
-    ensures { Writes (O.written out.old) (O.written out.new) (O.faults out.old) (O.faults out.new)
-        (hart_lines_text number view.now) result }
+    ensures { Writes O.written O.faults out.old out.new (hart_lines_text number view.now) result }
 {
     put_line(&hart_line(number, view), out)?;
     put_registers(&view.regs, out)
@@ -211,8 +209,7 @@ fn put_hart<O: Sink>(number: u8, view: &HartView, out: &mut O) -> Result<(), Sin
 /// Writes the lines of hart 1, and nothing where it is parked.
 #[tactic(auto, using(bench_shelf::proofs::Writing::writes_begin))]
 fn put_second_hart<O: Sink>(view: &HartView, out: &mut O) -> Result<(), SinkFault>
-    ensures { Writes (O.written out.old) (O.written out.new) (O.faults out.old) (O.faults out.new)
-        (unless_parked view.now.phase (hart_lines_text 1 view.now)) result }
+    ensures { Writes O.written O.faults out.old out.new (unless_parked view.now.phase (hart_lines_text 1 view.now)) result }
 {
     match view.phase {
         PhaseWord::Parked => Ok(()),
@@ -229,7 +226,7 @@ fn is_zero(row: &[u8; 16]) -> bool
 /// Writes the line of a row, and nothing where all its bytes are zero.
 #[tactic(auto, using(bench_shelf::proofs::Writing::writes_begin), unfolding(crate::specs::Report::row_text))]
 fn put_row<O: Sink>(address: u32, row: &[u8; 16], out: &mut O) -> Result<(), SinkFault>
-    ensures { Writes (O.written out.old) (O.written out.new) (O.faults out.old) (O.faults out.new) (row_text address row.now) result }
+    ensures { Writes O.written O.faults out.old out.new (row_text address row.now) result }
 {
     if is_zero(row) {
         return Ok(());
@@ -239,8 +236,7 @@ fn put_row<O: Sink>(address: u32, row: &[u8; 16], out: &mut O) -> Result<(), Sin
 
 /// Writes the lines of a memory.
 fn put_memory<O: Sink>(chip: &Chip, bank: Bank, out: &mut O) -> Result<(), SinkFault>
-    ensures { ForEach ⟦<Chip as Standing>⟧.stands chip.now (λ s. Writes (O.written out.old) (O.written out.new) (O.faults out.old) (O.faults out.new)
-        (memory_text (base_of bank) (bytes_of s.hub bank)) result) }
+    ensures { ForEach ⟦<Chip as Standing>⟧.stands chip.now (λ _ s. Writes O.written O.faults out.old out.new (memory_text (base_of bank) (bytes_of s.hub bank)) result) }
 {
     let rows = bank.rows(chip);
     for number in 0..rows {
@@ -252,8 +248,7 @@ fn put_memory<O: Sink>(chip: &Chip, bank: Bank, out: &mut O) -> Result<(), SinkF
 
 /// Writes the lines of events, in their order.
 pub fn put_events<O: Sink>(events: &[Event], out: &mut O) -> Result<(), SinkFault>
-    ensures { Writes (O.written out.old) (O.written out.new) (O.faults out.old) (O.faults out.new)
-        (events_text events.now) result }
+    ensures { Writes O.written O.faults out.old out.new (events_text events.now) result }
 {
     for event in events {
         put_line(&event_line(event), out)?;
@@ -263,8 +258,7 @@ pub fn put_events<O: Sink>(events: &[Event], out: &mut O) -> Result<(), SinkFaul
 
 /// Writes the lines of the harts.
 pub fn put_harts<O: Sink>(first: &HartView, second: &HartView, out: &mut O) -> Result<(), SinkFault>
-    ensures { Writes (O.written out.old) (O.written out.new) (O.faults out.old) (O.faults out.new)
-        (hart_lines_text 0 first.now ++ unless_parked second.now.phase (hart_lines_text 1 second.now)) result }
+    ensures { Writes O.written O.faults out.old out.new (hart_lines_text 0 first.now ++ unless_parked second.now.phase (hart_lines_text 1 second.now)) result }
 {
     put_hart(0, first, out)?;
     put_second_hart(second, out)
@@ -272,8 +266,7 @@ pub fn put_harts<O: Sink>(first: &HartView, second: &HartView, out: &mut O) -> R
 
 /// Writes the lines of the memories, and the last line.
 pub fn put_tail<O: Sink>(chip: &Chip, out: &mut O) -> Result<(), SinkFault>
-    ensures { ForEach ⟦<Chip as Standing>⟧.stands chip.now (λ s. Writes (O.written out.old) (O.written out.new) (O.faults out.old) (O.faults out.new)
-        (memory_text 0 s.hub.memory.imem ++ memory_text 2147483648 s.hub.memory.dmem ++ end_text) result) }
+    ensures { ForEach ⟦<Chip as Standing>⟧.stands chip.now (λ _ s. Writes O.written O.faults out.old out.new (memory_text 0 s.hub.memory.imem ++ memory_text 2147483648 s.hub.memory.dmem ++ end_text) result) }
 {
     put_memory(chip, Bank::Imem, out)?;
     put_memory(chip, Bank::Dmem, out)?;

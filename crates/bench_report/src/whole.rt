@@ -4,8 +4,9 @@ ghost use Rattle.bench_report.specs.Report.{boot_text, cycles_text, events_text,
 ghost use Rattle.bench_shelf.specs.Sink.{Writes};
 ghost use Rattle.chip_base.specs.Settings.{values_of};
 ghost use Rattle.chip_hub.specs.Cycle.{boot_view};
-ghost use Rattle.chip_whole.specs.Chip.{Board, State, after, bare, start};
+ghost use Rattle.chip_whole.specs.Chip.{after, bare, start};
 ghost use Rattle.chip_whole.specs.Next.{next_events};
+ghost use Rattle.chip_whole.specs.Stands.{ForEach, IsStepped};
 
 use crate::report::{boot_line, cycles_line, put_events, put_harts, put_line, put_tail};
 use bench_shelf::{Sink, SinkFault};
@@ -30,10 +31,8 @@ fn put_stretch<R: Threads + Sync, C: Ledger, O: Sink>(
 ) -> Result<(), SinkFault>
     requires cycles { cycles ≤ 4096 }
     requires time { ⟦<Chip as Standing>⟧.now chip.old + cycles + 4096 < 2 ^ 64 }
-    ensures writes { (board : Board) (s : State) → ⟦<Chip as Standing>⟧.stands board chip.old s
-        → Writes (O.written out.old) (O.written out.new) (O.faults out.old) (O.faults out.new) (events_text (next_events board s cycles)) result }
-    ensures state { OnOk result ((board : Board) (s : State) → ⟦<Chip as Standing>⟧.stands board chip.old s
-        → ⟦<Chip as Standing>⟧.stands board chip.new (after board s cycles)) }
+    ensures writes { ForEach ⟦<Chip as Standing>⟧.stands chip.old (λ board s. Writes O.written O.faults out.old out.new (events_text (next_events board s cycles)) result) }
+    ensures state { OnOk result (IsStepped ⟦<Chip as Standing>⟧.stands chip.old cycles chip.new) }
     ensures now { OnOk result (⟦<Chip as Standing>⟧.now chip.new ≡ ⟦<Chip as Standing>⟧.now chip.old + cycles) }
 {
     match chip.run(rt, cycles, steps) {
@@ -54,10 +53,8 @@ fn put_run<R: Threads + Sync, C: Ledger, O: Sink>(
     requires parts { blank.parts ≡ C.parts }
     requires one { 0 < blank.parts }
     requires first { ⟦<Chip as Standing>⟧.now chip.old ≡ 0 }
-    ensures writes { (board : Board) (s : State) → ⟦<Chip as Standing>⟧.stands board chip.old s
-        → Writes (O.written out.old) (O.written out.new) (O.faults out.old) (O.faults out.new) (events_text (next_events board s cycles)) result }
-    ensures state { OnOk result ((board : Board) (s : State) → ⟦<Chip as Standing>⟧.stands board chip.old s
-        → ⟦<Chip as Standing>⟧.stands board chip.new (after board s cycles)) }
+    ensures writes { ForEach ⟦<Chip as Standing>⟧.stands chip.old (λ board s. Writes O.written O.faults out.old out.new (events_text (next_events board s cycles)) result) }
+    ensures state { OnOk result (IsStepped ⟦<Chip as Standing>⟧.stands chip.old cycles chip.new) }
 {
     let mut steps = Steps::<C>::new(blank);
     for _ in 0..cycles / STRETCH {
@@ -74,11 +71,9 @@ fn put_head<R: Threads + Sync, O: Sink>(
     out: &mut O,
 ) -> Result<(), SinkFault>
     requires first { ⟦<Chip as Standing>⟧.now chip.old ≡ 0 }
-    ensures writes { (board : Board) (s : State) → ⟦<Chip as Standing>⟧.stands board chip.old s
-        → Writes (O.written out.old) (O.written out.new) (O.faults out.old) (O.faults out.new)
-        (cycles_text cycles ++ events_text (next_events board s cycles) ++ boot_text boot_view) result }
-    ensures state { OnOk result ((board : Board) (s : State) → ⟦<Chip as Standing>⟧.stands board chip.old s
-        → ⟦<Chip as Standing>⟧.stands board chip.new (after board s cycles)) }
+    ensures writes { ForEach ⟦<Chip as Standing>⟧.stands chip.old (λ board s. Writes O.written O.faults out.old out.new
+        (cycles_text cycles ++ events_text (next_events board s cycles) ++ boot_text boot_view) result) }
+    ensures state { OnOk result (IsStepped ⟦<Chip as Standing>⟧.stands chip.old cycles chip.new) }
 {
     put_line(&cycles_line(cycles), out)?;
     put_run::<R, Brand, O>(rt, chip, cycles, Blank::new(1), out)?;
@@ -93,8 +88,8 @@ fn report_chip<R: Threads + Sync, O: Sink>(
     out: &mut O,
 ) -> Result<(), SinkFault>
     requires first { ⟦<Chip as Standing>⟧.now chip.old ≡ 0 }
-    ensures { (board : Board) (s : State) → ⟦<Chip as Standing>⟧.stands board chip.old s → s.events ≡ []
-        → Writes (O.written out.old) (O.written out.new) (O.faults out.old) (O.faults out.new) (report (shown (after board s cycles) cycles)) result }
+    ensures { ForEach ⟦<Chip as Standing>⟧.stands chip.old (λ board s. s.events ≡ []
+        → Writes O.written O.faults out.old out.new (report (shown (after board s cycles) cycles)) result) }
 {
     put_head(rt, chip, cycles, out)?;
     put_harts(&chip.hart(0), &chip.hart(1), out)?;
@@ -115,8 +110,7 @@ pub fn report_run<R: Threads + Sync, O: Sink>(
     out: &mut O,
 ) -> Result<(), SinkFault>
     requires { length image.items ≤ setup.now.imem }
-    ensures { Writes (O.written out.old) (O.written out.new) (O.faults out.old) (O.faults out.new)
-        (report (shown (after bare (start (values_of setup.now) image.items script) cycles) cycles)) result }
+    ensures { Writes O.written O.faults out.old out.new (report (shown (after bare (start (values_of setup.now) image.items script) cycles) cycles)) result }
 {
     match Chip::new(alloc, setup, Boot::Raw, image, script, groups) {
         Ok(mut chip) => report_chip(rt, &mut chip, cycles, out),

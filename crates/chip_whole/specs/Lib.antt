@@ -5,3 +5,4 @@ pub mod Next
 pub mod Order
 pub mod Sent
 pub mod Standing
+pub mod Stands

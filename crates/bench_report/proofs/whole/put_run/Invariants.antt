@@ -1,5 +1,5 @@
 use Rattle.std.proofs.Common.{◌≡◌, ◌*◌, Ok}
-use Rattle.bench_shelf.specs.Sink.{Writes}
+use Rattle.bench_shelf.specs.Sink.{Appending}
 use Rattle.chip_net.specs.contracts.chip.ChipStanding.TheImpl.{ghosts}
 use Rattle.chip_whole.specs.Chip.{Board, State, after}
 use Rattle.chip_whole.specs.Next.{next_events}
@@ -11,5 +11,5 @@ invariant-loop g l = record {
   state : (board : Board) (s : State) → ghosts.stands board l.fn.chip s → ghosts.stands board l.chip (after board s (4096 * l.counter));
   now : ghosts.now l.chip ≡ 4096 * l.counter;
   writes : (board : Board) (s : State) → ghosts.stands board l.fn.chip s
-      → Writes (g.O.Sink.written l.fn.out) (g.O.Sink.written l.out) (g.O.Sink.faults l.fn.out) (g.O.Sink.faults l.out) (events_text (next_events board s (4096 * l.counter))) (Ok (tt {0}));
+      → Appending (g.O.Sink.written l.fn.out) (g.O.Sink.written l.out) (g.O.Sink.faults l.fn.out) (g.O.Sink.faults l.out) (events_text (next_events board s (4096 * l.counter))) (Ok (tt {0}));
 }
