@@ -1,8 +1,14 @@
 //! `neo`, a bench simulator of one small RISC-V system on chip: runs firmware under scripted input, and reports what left the chip.
 #![tactic(auto)]
 
+#[cfg(test)]
+mod programs;
+#[cfg(test)]
+mod tests;
+mod top;
+
+use crate::top::bench;
 use bench_shelf::{FileShelf, OutSink};
-use bench_top::bench;
 use std::io::ErrorKind;
 use std::process::ExitCode;
 use std::{env, io};

@@ -1,0 +1,10 @@
+//! What the words of a job mean, and what is done for them.
+#![tactic(auto)]
+
+mod call;
+mod deed;
+mod files;
+mod seat;
+mod tell;
+
+pub use call::perform;

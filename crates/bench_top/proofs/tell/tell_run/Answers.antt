@@ -1,4 +1,0 @@
-use Rattle.bench_top.proofs.tell.tell_run.Goals as goal
-
-pub returns : goal.returns
-returns g c = c.said.ensures _ _ _ _ _ c.report_run.ensures
