@@ -4,25 +4,44 @@ use crate::fields::{after, field, skip};
 use crate::lines::cut_line;
 use crate::numbers::number;
 use crate::quoted::read_quoted;
-use std::alloc::{AllocError, Global};
+use std::alloc::Global;
 
-/// Whether a text after its opening quote stands for these bytes, and is followed by this text.
-fn stands_for(alloc: Global, text: &[u8], bytes: &[u8], rest: &[u8]) -> Result<bool, AllocError> {
-    match read_quoted(alloc, text)? {
-        Some((found, left)) => Ok(found.as_slice() == bytes && left == rest),
-        None => Ok(false),
+/// Whether a text after its opening quote is no quoted text.
+fn is_refused(alloc: Global, text: &[u8]) -> bool {
+    match read_quoted(alloc, text) {
+        Ok(None) => true,
+        _ => false,
     }
 }
 
+/// Whether a text after its opening quote stands for these bytes, and is followed by this text.
+fn stands_for(alloc: Global, text: &[u8], bytes: &[u8], rest: &[u8]) -> bool {
+    match read_quoted(alloc, text) {
+        Ok(Some((found, left))) => found.as_slice() == bytes && left == rest,
+        _ => false,
+    }
+}
+
+/// Whether the lines and fields of a text are cut where they end.
+fn cuts_lines_and_fields() -> bool {
+    let (line, rest) = cut_line(b" pin\t 5 \r\r\nend\r");
+    let Some(left) = rest else {
+        return false;
+    };
+    let (last, none) = cut_line(left);
+    let first = field(skip(line)) == b"pin".as_slice() && after(skip(line)) == b"5 \r".as_slice();
+    first && line == b" pin\t 5 \r".as_slice() && last == b"end\r".as_slice() && none.is_none()
+}
+
 #[test]
-fn reads_quoted_texts(rt: HostRuntime) -> Result<(), AllocError> {
+fn reads_quoted_texts_lines_and_numbers(rt: HostRuntime) {
     for (text, bytes, rest) in [
         (b"\"".as_slice(), b"".as_slice(), b"".as_slice()),
         (b"A\\r\\n\\t\" x", b"A\r\n\t", b" x"),
         (b"\\\\\\\"~\"", b"\\\"~", b""),
         (b"\\x00\\xfF\"b", &[0, 255], b"b"),
     ] {
-        assert!(&rt; stands_for(rt.alloc(), text, bytes, rest)?);
+        assert!(&rt; stands_for(rt.alloc(), text, bytes, rest));
     }
     for text in [
         b"ab".as_slice(),
@@ -32,28 +51,8 @@ fn reads_quoted_texts(rt: HostRuntime) -> Result<(), AllocError> {
         b"\x7f\"",
         b"\\",
     ] {
-        assert!(&rt; read_quoted(rt.alloc(), text)?.is_none());
+        assert!(&rt; is_refused(rt.alloc(), text));
     }
-    Ok(())
-}
-
-#[test]
-fn cuts_lines_and_fields(rt: HostRuntime) {
-    let (line, rest) = cut_line(b" pin\t 5 \r\r\nend\r");
-    assert!(&rt; line == b" pin\t 5 \r".as_slice());
-    assert!(&rt; field(skip(line)) == b"pin".as_slice());
-    assert!(&rt; after(skip(line)) == b"5 \r".as_slice());
-    match rest {
-        Some(left) => {
-            let (line, rest) = cut_line(left);
-            assert!(&rt; line == b"end\r".as_slice() && rest.is_none());
-        }
-        None => assert!(&rt; false),
-    }
-}
-
-#[test]
-fn reads_numbers(rt: HostRuntime) {
     for (text, value) in [
         (b"0".as_slice(), Some(0)),
         (b"0000000012", Some(12)),
@@ -66,4 +65,5 @@ fn reads_numbers(rt: HostRuntime) {
     ] {
         assert!(&rt; number(10, u32::MAX, text) == value);
     }
+    assert!(&rt; cuts_lines_and_fields());
 }

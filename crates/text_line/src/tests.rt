@@ -1,10 +1,8 @@
 use crate::Line;
-use std::test::Fail;
 
 #[test]
-fn a_line_takes_texts_numbers_and_digits(rt: HostRuntime) -> Result<(), Fail> {
+fn a_line_takes_texts_numbers_and_digits_up_to_128_bytes(rt: HostRuntime) {
     let mut line = Line::new();
-    assert_eq!(rt; line.as_slice(), b"".as_slice());
     line.push(b"x");
     line.push_number(10);
     line.push(b" ");
@@ -17,17 +15,11 @@ fn a_line_takes_texts_numbers_and_digits(rt: HostRuntime) -> Result<(), Fail> {
     line.push_bytes_hex(&[0x93, 0x00, 0x50, 0x00]);
     line.push(b"\n");
     let text = b"x10 00c0ffee 0a 18446744073709551615 93005000\n";
-    assert_eq!(rt; line.as_slice(), text.as_slice());
-    Ok(())
-}
+    assert!(&rt; line.as_slice() == text.as_slice());
 
-#[test]
-fn a_line_holds_128_bytes(rt: HostRuntime) -> Result<(), Fail> {
-    let mut line = Line::new();
-    line.push(&[b'a'; 96]);
-    line.push_bytes_hex(&[0xff; 16]);
-    let text = line.as_slice();
-    assert_eq!(rt; text.len(), 128);
-    assert!(rt; text.starts_with(b"aaaa") && text.ends_with(b"ffff"));
-    Ok(())
+    let mut full = Line::new();
+    full.push(&[b'a'; 96]);
+    full.push_bytes_hex(&[0xff; 16]);
+    let text = full.as_slice();
+    assert!(&rt; text.len() == 128 && text.ends_with(b"aaffffffffffffffffffffffffffffffff"));
 }
