@@ -43,25 +43,34 @@ fn is_wanted(job: &RunJob<'_>, wanted: &Wanted<'_>) -> bool {
 }
 
 /// Whether the words of a line give this job.
-fn gives(alloc: Global, line: &str, wanted: &Wanted<'_>) -> Result<bool, AllocError> {
-    let words = words_of(alloc, line)?;
+fn gives(alloc: Global, line: &str, wanted: &Wanted<'_>) -> bool {
+    let Ok(words) = words_of(alloc, line) else {
+        return false;
+    };
     match read_job(alloc, &words) {
-        Ok(Some(job)) => Ok(is_wanted(&job, wanted)),
-        _ => Ok(false),
+        Ok(Some(job)) => is_wanted(&job, wanted),
+        _ => false,
+    }
+}
+
+/// Whether these words give no job.
+fn is_refused(alloc: Global, words: &[String]) -> bool {
+    match read_job(alloc, words) {
+        Ok(None) => true,
+        _ => false,
     }
 }
 
 /// Whether the words of a line give no job.
-fn is_refused(alloc: Global, line: &str) -> Result<bool, AllocError> {
-    let words = words_of(alloc, line)?;
-    match read_job(alloc, &words) {
-        Ok(None) => Ok(true),
-        _ => Ok(false),
+fn is_line_refused(alloc: Global, line: &str) -> bool {
+    match words_of(alloc, line) {
+        Ok(words) => is_refused(alloc, &words),
+        Err(_) => false,
     }
 }
 
 #[test]
-fn reads_jobs_of_an_image_and_cycles(rt: HostRuntime) -> Result<(), AllocError> {
+fn reads_jobs(rt: HostRuntime) {
     for (line, image, cycles) in [
         ("run a.bin 10 --boot raw", "a.bin", 10),
         ("run --boot raw a.bin 10", "a.bin", 10),
@@ -75,14 +84,8 @@ fn reads_jobs_of_an_image_and_cycles(rt: HostRuntime) -> Result<(), AllocError> 
         ("run  10 --boot raw", "", 10),
         ("run --boot raw -- --a 10", "--a", 10),
     ] {
-        let wanted = plain(image, cycles);
-        assert!(&rt; gives(rt.alloc(), line, &wanted)?, "{line}");
+        assert!(&rt; gives(rt.alloc(), line, &plain(image, cycles)), "{line}");
     }
-    Ok(())
-}
-
-#[test]
-fn reads_files_and_groups(rt: HostRuntime) -> Result<(), AllocError> {
     let none: Option<&str> = None;
     for (line, chip, script, groups) in [
         (
@@ -129,13 +132,12 @@ fn reads_files_and_groups(rt: HostRuntime) -> Result<(), AllocError> {
             script,
             groups,
         };
-        assert!(&rt; gives(rt.alloc(), line, &wanted)?, "{line}");
+        assert!(&rt; gives(rt.alloc(), line, &wanted), "{line}");
     }
-    Ok(())
 }
 
 #[test]
-fn refuses_other_words(rt: HostRuntime) -> Result<(), AllocError> {
+fn refuses_other_words(rt: HostRuntime) {
     for line in [
         "",
         "run",
@@ -181,16 +183,7 @@ fn refuses_other_words(rt: HostRuntime) -> Result<(), AllocError> {
         "debug a.bin 10 c.txt --boot raw",
         "demo 1",
     ] {
-        assert!(&rt; is_refused(rt.alloc(), line)?, "{line}");
+        assert!(&rt; is_line_refused(rt.alloc(), line), "{line}");
     }
-    Ok(())
-}
-
-#[test]
-fn refuses_no_words(rt: HostRuntime) {
-    let words = Vec::new(rt.alloc());
-    match read_job(rt.alloc(), &words) {
-        Ok(job) => assert!(&rt; job.is_none()),
-        Err(_) => assert!(&rt; false),
-    }
+    assert!(&rt; is_refused(rt.alloc(), &[]));
 }
