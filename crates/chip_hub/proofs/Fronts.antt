@@ -24,7 +24,8 @@ use Rattle.unit_fronts.specs.GpioFront.{PinRegisters, answered as pins_answered,
 use Rattle.unit_fronts.specs.PwmFront.{DutyRegisters, arrived as duty_arrived, store_sent as duty_sent, stored as duty_stored}
 use Rattle.unit_fronts.specs.UartFront.{loaded, stored, store_sent}
 use Rattle.unit_fronts.proofs.Counts.{loads, spends}
-use Rattle.chip_hub.specs.Access.{accessed, accessed_by, in_clint, in_device, in_dma, in_mailbox, in_memory, in_region, in_sysinfo, memory_stored}
+use Rattle.chip_base.specs.UnitTable.{unit_numbered}
+use Rattle.chip_hub.specs.Access.{accessed, accessed_by, in_clint, in_device, in_dma, in_mailbox, in_memory, in_numbered, in_region, in_sysinfo, memory_stored}
 use Rattle.chip_hub.specs.Cycle.{heard, heard_by_gpio, heard_by_pwm, hub_cycle, served, served0, served1, served2, served_to, timed, turn0, turn1, wants_of}
 use Rattle.chip_hub.specs.State.{Fronts, State, Step}
 use Rattle.chip_hub.specs.Units.{at_gpio, at_pwm, at_uart, fronts_after, messages_in, only_to, silent, unit_down}
@@ -66,6 +67,11 @@ dma_access : (Q : Fronts → Fronts → List (Option Down) → Type 0) → Holds
 dma_access Q h s r None = h.quiet s.fronts
 dma_access Q h s r (Some value) = h.quiet s.fronts
 
+numbered_access : (Q : Fronts → Fronts → List (Option Down) → Type 0) → HoldsOfAccesses Q → (s : State) (r : Request) (unit : Option ChipUnit) (reg : ℕ)
+    → Q s.fronts (in_numbered s r unit reg).hub.fronts (in_numbered s r unit reg).downs
+numbered_access Q h s r None reg = h.quiet s.fronts
+numbered_access Q h s r (Some unit) reg = h.device s r unit reg
+
 region_access : (Q : Fronts → Fronts → List (Option Down) → Type 0) → HoldsOfAccesses Q → (s : State) (r : Request) (region : Region)
     → Q s.fronts (in_region s r region).hub.fronts (in_region s r region).downs
 region_access Q h s r Imem = memory_access Q h s r r.store
@@ -74,7 +80,7 @@ region_access Q h s r Clint = clint_access Q h s r r.store
 region_access Q h s r Mailbox = mailbox_access Q h s r r.store
 region_access Q h s r Sysinfo = sysinfo_access Q h s r r.store
 region_access Q h s r Dma = dma_access Q h s r r.store
-region_access Q h s r (Device unit reg) = h.device s r unit reg
+region_access Q h s r (Device number reg) = numbered_access Q h s r (unit_numbered number) reg
 
 found_access : (Q : Fronts → Fronts → List (Option Down) → Type 0) → HoldsOfAccesses Q → (s : State) (r : Request) (found : Result Region BusFault)
     → Q s.fronts (accessed_by s r found).hub.fronts (accessed_by s r found).downs

@@ -1,7 +1,7 @@
 -- An access that was granted.
 use Rattle.std.specs.Prelude.{◌==◌, ℕ, ◌+◌, Bool, true, List, length, Option, Some, None, Result, Ok, Err, if◌then◌else◌}
 use Rattle.chip_base.specs.Bits.{bit_if}
-use Rattle.chip_base.specs.UnitTable.{unit_row}
+use Rattle.chip_base.specs.UnitTable.{unit_numbered, unit_row}
 use Rattle.chip_base.specs.declared.chip_unit.ChipUnit.{ChipUnit}
 use Rattle.chip_base.specs.declared.chip_unit.ChipUnit.TheVariants.{Uart0, Uart1, Spi, Gpio, Pwm, Slink, Wdt}
 use Rattle.chip_base.specs.declared.message.Down.{Down}
@@ -10,6 +10,7 @@ use Rattle.core_pair.specs.Mailbox.{mailbox_word, mailbox_stored}
 use Rattle.soc_bus.specs.Map.{admitted}
 use Rattle.soc_bus.specs.Memory.{Memories, load_of, store_of}
 use Rattle.soc_bus.specs.declared.access.BusFault.{BusFault}
+use Rattle.soc_bus.specs.declared.access.BusFault.TheVariants.{Unmapped}
 use Rattle.soc_bus.specs.declared.access.Region.{Region}
 use Rattle.soc_bus.specs.declared.access.Region.TheVariants.{Imem, Dmem, Clint, Mailbox, Sysinfo, Dma, Device}
 use Rattle.soc_bus.specs.declared.access.Request.{Request}
@@ -84,6 +85,11 @@ in_device s r unit reg = record {
   downs = only_to unit (unit_down s.fronts r unit reg);
 }
 
+-- the same by the unit of a number; no unit has another number
+abbrev pub in_numbered : State → Request → Option ChipUnit → ℕ → Accessed
+in_numbered s r None reg = unchanged s (Err Unmapped)
+in_numbered s r (Some unit) reg = in_device s r unit reg
+
 abbrev pub in_region : State → Request → Region → Accessed
 in_region s r Imem = in_memory s r r.store
 in_region s r Dmem = in_memory s r r.store
@@ -91,7 +97,7 @@ in_region s r Clint = in_clint s r r.store
 in_region s r Mailbox = in_mailbox s r r.store
 in_region s r Sysinfo = in_sysinfo s r r.store
 in_region s r Dma = in_dma s r r.store
-in_region s r (Device unit reg) = in_device s r unit reg
+in_region s r (Device number reg) = in_numbered s r (unit_numbered number) reg
 
 abbrev pub accessed_by : State → Request → Result Region BusFault → Accessed
 accessed_by s r (Err fault) = unchanged s (Err fault)

@@ -1,11 +1,11 @@
 //! Accesses that were granted.
 ghost use Rattle.std.specs.Prelude.{◌≡◌, ◌≤◌, ◌*◌, ◌/◌, ◌-◌, ℕ, Ok, Err, IsTrue, length, set, true};
-ghost use Rattle.chip_base.specs.UnitTable.{part_has, unit_has};
+ghost use Rattle.chip_base.specs.UnitTable.{part_has, unit_has, unit_numbered};
 ghost use Rattle.chip_base.specs.declared.chip_unit.HubPart.TheVariants as part;
 ghost use Rattle.dma_unit.specs.Copier.{is_busy};
 ghost use Rattle.soc_bus.specs.Map.{admitted};
-ghost use Rattle.chip_hub.specs.Offsets.{fits_at};
-ghost use Rattle.chip_hub.specs.Access.{accessed, in_clint, in_device, in_dma, in_mailbox, in_memory, in_region, in_sysinfo, open_bit, open_word, sysinfo_word};
+ghost use Rattle.chip_hub.specs.Offsets.{fits_at, numbered_has};
+ghost use Rattle.chip_hub.specs.Access.{accessed, in_clint, in_device, in_dma, in_mailbox, in_memory, in_numbered, in_region, in_sysinfo, open_bit, open_word, sysinfo_word};
 ghost use Rattle.chip_hub.specs.Parts.{offset_in};
 ghost use Rattle.chip_hub.specs.Units.{only_to, silent};
 
@@ -195,6 +195,17 @@ impl Hub {
         }
     }
 
+    fn access_numbered(&mut self, request: &Request, number: u8, reg: u8) -> Access
+        requires { numbered_has (unit_numbered number) reg ≡ true }
+        ensures step { record { hub = self.new; answer = result.answer; downs = result.downs } ≡ in_numbered self.old request.now (unit_numbered number) reg }
+        ensures dma { self.new.dma ≡ self.old.dma }
+    {
+        match ChipUnit::numbered(number) {
+            Some(unit) => self.access_device(request, unit, reg),
+            None => refused(BusFault::Unmapped),
+        }
+    }
+
     fn access_region(&mut self, request: &Request, region: Region) -> Access
         requires { fits_at (4 * (request.now.addr / 4)) region ≡ true }
         ensures step { record { hub = self.new; answer = result.answer; downs = result.downs } ≡ in_region self.old request.now region }
@@ -207,7 +218,7 @@ impl Hub {
             Region::Mailbox => self.access_mailbox(request),
             Region::Sysinfo => self.access_sysinfo(request),
             Region::Dma => self.access_dma(request),
-            Region::Device { unit, reg } => self.access_device(request, unit, reg),
+            Region::Device { unit, reg } => self.access_numbered(request, unit, reg),
         }
     }
 

@@ -26,7 +26,7 @@ part_region part.Sysinfo = Sysinfo
 part_region part.Mailbox = Mailbox
 
 abbrev pub unit_registers : ChipUnit → List Register
-unit_registers unit = map (λ offset. record { address = (unit_row unit).base + offset; region = Device unit offset }) (unit_row unit).offsets
+unit_registers unit = map (λ offset. record { address = (unit_row unit).base + offset; region = Device (unit_row unit).number offset }) (unit_row unit).offsets
 
 abbrev pub part_registers : HubPart → List Register
 part_registers part = map (λ offset. record { address = (part_row part).base + offset; region = part_region part }) (part_row part).offsets

@@ -2,8 +2,6 @@
 ghost use Rattle.std.specs.Prelude.{◌≡◌};
 ghost use Rattle.soc_bus.specs.Access.{width_bytes};
 
-use chip_base::ChipUnit;
-
 /// How many bytes an access has.
 #[derive(Clone, Copy, Debug, PartialEq, Eq)]
 pub enum Width {
@@ -64,6 +62,6 @@ pub enum Region {
     Sysinfo,
     /// The copier of words.
     Dma,
-    /// A unit's registers. `reg` is the offset, in bytes, of the register in whose word the address lies.
-    Device { unit: ChipUnit, reg: u8 },
+    /// A unit's registers, by the unit's number, 1 to 7. `reg` is the offset, in bytes, of the register in whose word the address lies.
+    Device { unit: u8, reg: u8 },
 }

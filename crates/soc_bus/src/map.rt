@@ -1,5 +1,6 @@
 //! The address map.
 ghost use Rattle.std.specs.Prelude.{◌≡◌, ◌<◌, length, IfOk, Some};
+ghost use Rattle.chip_base.specs.UnitTable.{unit_row};
 ghost use Rattle.soc_bus.specs.Map.{Agrees, admitted, device_of, is_narrow, region_of, registers};
 ghost use Rattle.soc_bus.specs.Memory.{IsSize, Memories};
 ghost use Rattle.soc_bus.specs.Parts.{on_page};
@@ -112,10 +113,10 @@ fn register_at(upper: u32, lower: u32) -> Option<Region>
 /// A register of a unit.
 fn unit_register(unit: ChipUnit, reg: u32) -> Option<Region>
     requires { reg < 256 }
-    ensures { result ≡ Some (Device unit reg) }
+    ensures { result ≡ Some (Device (unit_row unit).number reg) }
 {
     Some(Region::Device {
-        unit,
+        unit: unit.number(),
         reg: reg as u8,
     })
 }

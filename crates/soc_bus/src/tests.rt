@@ -1,7 +1,6 @@
 //! Accesses at the edges of the map.
 
 use crate::{BusFault, Memory, Region, Request, Width, admit};
-use chip_base::ChipUnit;
 use std::test::Fail;
 
 /// Whether a load gives this.
@@ -37,7 +36,7 @@ fn loads_what_was_stored(rt: HostRuntime) -> Result<(), Fail> {
 fn admits_by_the_map(rt: HostRuntime) {
     let store = Some(0);
     let byte = Region::Device {
-        unit: ChipUnit::Uart0,
+        unit: 1,
         reg: 4,
     };
     for (addr, width, store, want) in [
