@@ -17,12 +17,12 @@ use Rattle.soc_bus.specs.declared.access.Request.{Request}
 use Rattle.soc_bus.specs.declared.arbiter.Master.{Master}
 use Rattle.soc_bus.specs.declared.arbiter.Master.TheVariants.{Core0, Core1, Dma as Copier}
 use Rattle.core_pair.specs.Core.{wanted_in}
-use Rattle.dma_unit.specs.Copier.{wanted as dma_wanted}
+use Rattle.dma_unit.specs.DmaRegisters.{dma_wanted}
 use Rattle.unit_fronts.specs.Counts.{SpendsCredits}
-use Rattle.unit_fronts.specs.Port.{Port, is_open_of}
-use Rattle.unit_fronts.specs.GpioFront.{PinRegisters, answered as pins_answered, arrived as pins_arrived, arrived_open as pins_arrived_open, store_sent as pins_sent, stored as pins_stored, written as pins_written}
-use Rattle.unit_fronts.specs.PwmFront.{DutyRegisters, arrived as duty_arrived, store_sent as duty_sent, stored as duty_stored}
-use Rattle.unit_fronts.specs.UartFront.{loaded, stored, store_sent}
+use Rattle.unit_fronts.specs.SerialRegisters.{SerialRegisters, serial_is_open}
+use Rattle.unit_fronts.specs.GpioFront.{GpioRegisters, gpio_answered, gpio_arrived, gpio_arrived_open, gpio_sent, gpio_stored, gpio_stored_open}
+use Rattle.unit_fronts.specs.PwmFront.{PwmRegisters, pwm_arrived, pwm_sent, pwm_stored}
+use Rattle.unit_fronts.specs.UartFront.{serial_loaded, serial_stored, serial_sent}
 use Rattle.unit_fronts.proofs.Counts.{loads, spends}
 use Rattle.chip_base.specs.UnitTable.{unit_numbered}
 use Rattle.chip_hub.specs.Access.{accessed, accessed_by, in_clint, in_device, in_dma, in_mailbox, in_memory, in_numbered, in_region, in_sysinfo, memory_stored}
@@ -152,26 +152,26 @@ pub one_sent : (s : State) (wants : ℕ) (step : Step) → step ≡ served s wan
 one_sent s wants step e = subst (λ x. messages_in x.downs ≤ 1) (sym e) (one_message s wants)
 
 -- what an access does to a front, and the message that it sends down
-pub record ServesPort (takes : ℕ → Bool) (old : Port) (down : Option Down) (new : Port) : Type 0 where
+pub record ServesPort (takes : ℕ → Bool) (old : SerialRegisters) (down : Option Down) (new : SerialRegisters) : Type 0 where
   pub credits : SpendsCredits takes old down new
   -- a closed front sends no entry
-  pub closed : is_open_of old ≡ false → entry_in takes down ≡ 0
+  pub closed : serial_is_open old ≡ false → entry_in takes down ≡ 0
   pub no_reset : reset_in down ≡ 0
 
-serves_nothing : (takes : ℕ → Bool) (p : Port) → ServesPort takes p None p
+serves_nothing : (takes : ℕ → Bool) (p : SerialRegisters) → ServesPort takes p None p
 serves_nothing takes p = record { credits = record { credits = omega arith; owed = refl }; closed = λ c. refl; no_reset = refl }
 
-uart_load : (p : Port) (reg : ℕ) → ServesPort at_data p None (loaded p reg)
+uart_load : (p : SerialRegisters) (reg : ℕ) → ServesPort at_data p None (serial_loaded p reg)
 uart_load p reg = record { credits = loads p reg; closed = λ c. refl; no_reset = refl }
 
-uart_no_reset : (p : Port) (reg word : ℕ) (open_now control empty : Bool) → is_open_of p ≡ open_now → eqb reg 0 ≡ control → eqb p.credits 0 ≡ empty
-    → reset_in (store_sent p reg word) ≡ 0
+uart_no_reset : (p : SerialRegisters) (reg word : ℕ) (open_now control empty : Bool) → serial_is_open p ≡ open_now → eqb reg 0 ≡ control → eqb p.credits 0 ≡ empty
+    → reset_in (serial_sent p reg word) ≡ 0
 uart_no_reset p reg word false b d e f g = rw e refl
 uart_no_reset p reg word true true d e f g = rw (e, f) refl
 uart_no_reset p reg word true false true e f g = rw (e, f, g) refl
 uart_no_reset p reg word true false false e f g = rw (e, f, g) refl
 
-uart_store : (p : Port) (reg word : ℕ) → ServesPort at_data p (store_sent p reg word) (stored p reg word)
+uart_store : (p : SerialRegisters) (reg word : ℕ) → ServesPort at_data p (serial_sent p reg word) (serial_stored p reg word)
 uart_store p reg word = record {
   credits = spends p reg word;
   closed = λ c. rw c refl;
@@ -179,7 +179,7 @@ uart_store p reg word = record {
 }
 
 -- what an access does to the front that it reaches
-uart_access : (p : Port) (r : Request) (reg : ℕ) (store : Option ℕ) → ServesPort at_data p (at_uart p r reg store).down (at_uart p r reg store).front
+uart_access : (p : SerialRegisters) (r : Request) (reg : ℕ) (store : Option ℕ) → ServesPort at_data p (at_uart p r reg store).down (at_uart p r reg store).front
 uart_access p r reg None = uart_load p reg
 uart_access p r reg (Some value) = uart_store p reg value
 
@@ -227,30 +227,30 @@ pub record ServesAnswers (old : ℕ) (down : Option Down) (new : ℕ) : Type 0 w
 no_answers : (owed : ℕ) → ServesAnswers owed None owed
 no_answers owed = record { owed = refl; no_reset = refl }
 
-gpio_written : (p : PinRegisters) (reg word : ℕ) (a b c : Bool) → eqb reg 4 ≡ a → eqb reg 8 ≡ b → eqb reg 12 ≡ c → (pins_written p reg word).owed ≡ p.owed
+gpio_written : (p : GpioRegisters) (reg word : ℕ) (a b c : Bool) → eqb reg 4 ≡ a → eqb reg 8 ≡ b → eqb reg 12 ≡ c → (gpio_stored_open p reg word).owed ≡ p.owed
 gpio_written p reg word true b c d e f = rw d refl
 gpio_written p reg word false true c d e f = rw (d, e) refl
 gpio_written p reg word false false true d e f = rw (d, e, f) refl
 gpio_written p reg word false false false d e f = rw (d, e, f) refl
 
-gpio_store : (p : PinRegisters) (reg word : ℕ) (open_now is_out : Bool) → eqb p.owed 0 ≡ open_now → eqb reg 4 ≡ is_out
-    → ServesAnswers p.owed (pins_sent p reg word) (pins_stored p reg word).owed
+gpio_store : (p : GpioRegisters) (reg word : ℕ) (open_now is_out : Bool) → eqb p.owed 0 ≡ open_now → eqb reg 4 ≡ is_out
+    → ServesAnswers p.owed (gpio_sent p reg word) (gpio_stored p reg word).owed
 gpio_store p reg word false b e f = rw e record { owed = refl; no_reset = refl }
 gpio_store p reg word true true e f = record { owed = rw e (gpio_written p reg word _ _ _ refl refl refl); no_reset = rw (e, f) refl }
 gpio_store p reg word true false e f = record { owed = rw e (gpio_written p reg word _ _ _ refl refl refl); no_reset = rw (e, f) refl }
 
-pwm_store : (p : DutyRegisters) (reg word : ℕ) (open_now control : Bool) → eqb p.owed 0 ≡ open_now → eqb reg 0 ≡ control
-    → ServesAnswers p.owed (duty_sent p reg word) (duty_stored p reg word).owed
+pwm_store : (p : PwmRegisters) (reg word : ℕ) (open_now control : Bool) → eqb p.owed 0 ≡ open_now → eqb reg 0 ≡ control
+    → ServesAnswers p.owed (pwm_sent p reg word) (pwm_stored p reg word).owed
 pwm_store p reg word false b e f = rw e record { owed = refl; no_reset = refl }
 pwm_store p reg word true true e f = record { owed = rw (e, f) refl; no_reset = rw e refl }
 pwm_store p reg word true false e f = record { owed = rw (e, f) refl; no_reset = rw e refl }
 
-gpio_access : (p : PinRegisters) (r : Request) (reg : ℕ) (store : Option ℕ)
+gpio_access : (p : GpioRegisters) (r : Request) (reg : ℕ) (store : Option ℕ)
     → ServesAnswers p.owed (at_gpio p r reg store).down (at_gpio p r reg store).front.owed
 gpio_access p r reg None = no_answers p.owed
 gpio_access p r reg (Some value) = gpio_store p reg value _ _ refl refl
 
-pwm_access : (p : DutyRegisters) (r : Request) (reg : ℕ) (store : Option ℕ)
+pwm_access : (p : PwmRegisters) (r : Request) (reg : ℕ) (store : Option ℕ)
     → ServesAnswers p.owed (at_pwm p r reg store).down (at_pwm p r reg store).front.owed
 pwm_access p r reg None = no_answers p.owed
 pwm_access p r reg (Some value) = pwm_store p reg value _ _ refl refl
@@ -312,24 +312,24 @@ owed_by owed after up false false e f g h i =
     let none : done_in (Some up) ≡ 0 = rw f refl in
     record { still = λ z. omega (arith, z, same); answers = λ z. omega (arith, same, none) }
 
-gpio_open : (p : PinRegisters) (up : Up) (takes : Bool) → (up.has && not up.done) ≡ takes → (pins_arrived_open p up).owed ≡ p.owed
+gpio_open : (p : GpioRegisters) (up : Up) (takes : Bool) → (up.has && not up.done) ≡ takes → (gpio_arrived_open p up).owed ≡ p.owed
 gpio_open p up true e = rw e refl
 gpio_open p up false e = rw e refl
 
-gpio_answered : (p : PinRegisters) (up : Up) (opens : Bool) → (eqb (p.owed - 1) 0 && up.has) ≡ opens → (pins_answered p up).owed ≡ p.owed - 1
-gpio_answered p up true e = rw e refl
-gpio_answered p up false e = rw e refl
+gpio_answer_owed : (p : GpioRegisters) (up : Up) (opens : Bool) → (eqb (p.owed - 1) 0 && up.has) ≡ opens → (gpio_answered p up).owed ≡ p.owed - 1
+gpio_answer_owed p up true e = rw e refl
+gpio_answer_owed p up false e = rw e refl
 
-pub gpio_hears : (p : PinRegisters) (up : Option Up) → HearsAnswers p.owed up (heard_by_gpio p up).owed
+pub gpio_hears : (p : GpioRegisters) (up : Option Up) → HearsAnswers p.owed up (heard_by_gpio p up).owed
 gpio_hears p None = record { still = λ z. z; answers = λ z. omega arith }
-gpio_hears p (Some up) = owed_by p.owed (pins_arrived p up).owed up (eqb p.owed 0) up.done refl refl
+gpio_hears p (Some up) = owed_by p.owed (gpio_arrived p up).owed up (eqb p.owed 0) up.done refl refl
     (λ o. rw o (gpio_open p up _ refl)) (λ o d. rw (o, d) (gpio_answered p up _ refl)) (λ o d. rw (o, d) refl)
 
-pub pwm_hears : (p : DutyRegisters) (up : Option Up) → HearsAnswers p.owed up (heard_by_pwm p up).owed
+pub pwm_hears : (p : PwmRegisters) (up : Option Up) → HearsAnswers p.owed up (heard_by_pwm p up).owed
 pwm_hears p None = record { still = λ z. z; answers = λ z. omega arith }
-pwm_hears p (Some up) = owed_by p.owed (duty_arrived p up).owed up (eqb p.owed 0) up.done refl refl
+pwm_hears p (Some up) = owed_by p.owed (pwm_arrived p up).owed up (eqb p.owed 0) up.done refl refl
     (λ o. pwm_open o _ refl) (λ o d. rw (o, d) refl) (λ o d. rw d refl)
   where
-    pwm_open : eqb p.owed 0 ≡ true → (d : Bool) → up.done ≡ d → (duty_arrived p up).owed ≡ p.owed
+    pwm_open : eqb p.owed 0 ≡ true → (d : Bool) → up.done ≡ d → (pwm_arrived p up).owed ≡ p.owed
     pwm_open o true e = rw (e, o) refl
     pwm_open o false e = rw e refl

@@ -16,10 +16,10 @@ use Rattle.soc_bus.specs.Rotation.{granted, after_grant}
 use Rattle.soc_bus.specs.declared.access.Request.{Request}
 use Rattle.soc_bus.specs.declared.arbiter.Master.{Master}
 use Rattle.soc_bus.specs.declared.arbiter.Master.TheVariants.{Core0, Core1, Dma}
-use Rattle.dma_unit.specs.Copier.{wanted as dma_wanted, granted_with as dma_granted}
-use Rattle.unit_fronts.specs.GpioFront.{PinRegisters, arrived as pins_arrived}
-use Rattle.unit_fronts.specs.Port.{Port, arrived}
-use Rattle.unit_fronts.specs.PwmFront.{DutyRegisters, arrived as duty_arrived}
+use Rattle.dma_unit.specs.DmaRegisters.{dma_wanted, dma_granted}
+use Rattle.unit_fronts.specs.GpioFront.{GpioRegisters, gpio_arrived}
+use Rattle.unit_fronts.specs.SerialRegisters.{SerialRegisters, serial_arrived}
+use Rattle.unit_fronts.specs.PwmFront.{PwmRegisters, pwm_arrived}
 use Rattle.chip_hub.specs.Access.{Accessed, accessed}
 use Rattle.chip_hub.specs.Lines.{mip_of}
 use Rattle.chip_hub.specs.State.{State, Step}
@@ -27,17 +27,17 @@ use Rattle.chip_hub.specs.Units.{silent}
 
 -- 1. what arrives from the units reaches their fronts
 
-abbrev pub heard_by : Port → Option Up → Port
+abbrev pub heard_by : SerialRegisters → Option Up → SerialRegisters
 heard_by front None = front
-heard_by front (Some up) = arrived front up
+heard_by front (Some up) = serial_arrived front up
 
-abbrev pub heard_by_gpio : PinRegisters → Option Up → PinRegisters
+abbrev pub heard_by_gpio : GpioRegisters → Option Up → GpioRegisters
 heard_by_gpio front None = front
-heard_by_gpio front (Some up) = pins_arrived front up
+heard_by_gpio front (Some up) = gpio_arrived front up
 
-abbrev pub heard_by_pwm : DutyRegisters → Option Up → DutyRegisters
+abbrev pub heard_by_pwm : PwmRegisters → Option Up → PwmRegisters
 heard_by_pwm front None = front
-heard_by_pwm front (Some up) = duty_arrived front up
+heard_by_pwm front (Some up) = pwm_arrived front up
 
 -- the message of a unit among those that arrive
 abbrev pub arrival_of : ChipUnit → List (Option Up) → Option Up

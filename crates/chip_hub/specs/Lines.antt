@@ -1,9 +1,9 @@
 -- The interrupt lines that a hart sees.
 use Rattle.std.specs.Prelude.{ℕ, ◌+◌}
 use Rattle.core_pair.specs.Clint.{clint_mip}
-use Rattle.dma_unit.specs.Copier.{line_of as dma_line}
-use Rattle.unit_fronts.specs.GpioFront.{line_of as pins_line}
-use Rattle.unit_fronts.specs.Port.{line_of}
+use Rattle.dma_unit.specs.DmaRegisters.{dma_line}
+use Rattle.unit_fronts.specs.GpioFront.{gpio_line}
+use Rattle.unit_fronts.specs.SerialRegisters.{serial_line}
 use Rattle.chip_base.specs.UnitTable.{fast_bit, part_row, unit_row}
 use Rattle.chip_base.specs.declared.chip_unit.ChipUnit.TheVariants.{Uart0, Uart1, Gpio}
 use Rattle.chip_base.specs.declared.chip_unit.HubPart.TheVariants.{Dma}
@@ -12,8 +12,8 @@ use Rattle.chip_hub.specs.State.{State}
 -- the fast lines, which both harts see alike: those of the DMA and of the units that are built
 abbrev pub fast_lines : State → ℕ
 fast_lines s =
-    fast_bit (part_row Dma).fast_line (dma_line s.dma) + fast_bit (unit_row Uart0).fast_line (line_of s.fronts.uart0)
-    + fast_bit (unit_row Uart1).fast_line (line_of s.fronts.uart1) + fast_bit (unit_row Gpio).fast_line (pins_line s.fronts.gpio)
+    fast_bit (part_row Dma).fast_line (dma_line s.dma) + fast_bit (unit_row Uart0).fast_line (serial_line s.fronts.uart0)
+    + fast_bit (unit_row Uart1).fast_line (serial_line s.fronts.uart1) + fast_bit (unit_row Gpio).fast_line (gpio_line s.fronts.gpio)
 
 -- what a read of mip gives: the hart's software and timer interrupts, and the fast lines
 abbrev pub mip_of : State → ℕ → ℕ

@@ -6,10 +6,10 @@ use Rattle.core_pair.specs.Core.{reset_core}
 use Rattle.core_pair.specs.Mailbox.{reset_mailbox}
 use Rattle.soc_bus.specs.Memory.{zeros}
 use Rattle.soc_bus.specs.declared.arbiter.Master.TheVariants.{Dma}
-use Rattle.dma_unit.specs.Copier.{reset_copier}
-use Rattle.unit_fronts.specs.GpioFront.{reset_owing as pins_reset}
-use Rattle.unit_fronts.specs.Port.{reset_owing}
-use Rattle.unit_fronts.specs.PwmFront.{reset_owing as duty_reset}
+use Rattle.dma_unit.specs.DmaRegisters.{dma_reset}
+use Rattle.unit_fronts.specs.GpioFront.{gpio_front_reset}
+use Rattle.unit_fronts.specs.SerialRegisters.{serial_front_reset}
+use Rattle.unit_fronts.specs.PwmFront.{pwm_front_reset}
 use Rattle.chip_hub.specs.State.{State}
 
 -- the hub at power-on, with these bytes from address 0 of IMEM
@@ -20,8 +20,8 @@ start v image = record {
   core1 = reset_core 1;
   memory = record { imem = image ++ drop (length image) (zeros v.imem); dmem = zeros v.dmem };
   arbiter = record { last = Dma };
-  dma = reset_copier;
+  dma = dma_reset;
   clint = reset_clint;
   mailbox = reset_mailbox;
-  fronts = record { uart0 = reset_owing 0; uart1 = reset_owing 0; gpio = pins_reset 0; pwm = duty_reset 0 };
+  fronts = record { uart0 = serial_front_reset 0; uart1 = serial_front_reset 0; gpio = gpio_front_reset 0; pwm = pwm_front_reset 0 };
 }

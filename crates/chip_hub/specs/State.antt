@@ -6,17 +6,17 @@ use Rattle.core_pair.specs.Core.{CoreState}
 use Rattle.core_pair.specs.Mailbox.{MailboxState}
 use Rattle.soc_bus.specs.Memory.{Memories}
 use Rattle.soc_bus.specs.Rotation.{Turns}
-use Rattle.dma_unit.specs.Copier.{Copier}
-use Rattle.unit_fronts.specs.GpioFront.{PinRegisters}
-use Rattle.unit_fronts.specs.Port.{Port}
-use Rattle.unit_fronts.specs.PwmFront.{DutyRegisters}
+use Rattle.dma_unit.specs.DmaRegisters.{DmaRegisters}
+use Rattle.unit_fronts.specs.GpioFront.{GpioRegisters}
+use Rattle.unit_fronts.specs.SerialRegisters.{SerialRegisters}
+use Rattle.unit_fronts.specs.PwmFront.{PwmRegisters}
 
 -- the fronts of the units that are built
 pub record Fronts : Type 0 where
-  pub uart0 : Port
-  pub uart1 : Port
-  pub gpio : PinRegisters
-  pub pwm : DutyRegisters
+  pub uart0 : SerialRegisters
+  pub uart1 : SerialRegisters
+  pub gpio : GpioRegisters
+  pub pwm : PwmRegisters
 
 pub record State : Type 0 where
   -- the clock in hertz, as the settings give it
@@ -25,7 +25,7 @@ pub record State : Type 0 where
   pub core1 : CoreState
   pub memory : Memories
   pub arbiter : Turns
-  pub dma : Copier
+  pub dma : DmaRegisters
   pub clint : ClintState
   pub mailbox : MailboxState
   pub fronts : Fronts

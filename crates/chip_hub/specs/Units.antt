@@ -7,10 +7,10 @@ use Rattle.chip_base.specs.declared.message.Down.{Down}
 use Rattle.soc_bus.specs.declared.access.BusFault.{BusFault}
 use Rattle.soc_bus.specs.declared.access.BusFault.TheVariants.{Unmapped}
 use Rattle.soc_bus.specs.declared.access.Request.{Request}
-use Rattle.unit_fronts.specs.GpioFront.{PinRegisters, load_word as pins_word, stored as pins_stored, store_sent as pins_sent}
-use Rattle.unit_fronts.specs.Port.{Port}
-use Rattle.unit_fronts.specs.PwmFront.{DutyRegisters, load_word as duty_word, stored as duty_stored, store_sent as duty_sent}
-use Rattle.unit_fronts.specs.UartFront.{load_word, loaded, stored, store_sent}
+use Rattle.unit_fronts.specs.GpioFront.{GpioRegisters, gpio_word, gpio_stored, gpio_sent}
+use Rattle.unit_fronts.specs.SerialRegisters.{SerialRegisters}
+use Rattle.unit_fronts.specs.PwmFront.{PwmRegisters, pwm_word, pwm_stored, pwm_sent}
+use Rattle.unit_fronts.specs.UartFront.{serial_word, serial_loaded, serial_stored, serial_sent}
 use Rattle.chip_hub.specs.Parts.{part_of_word}
 use Rattle.chip_hub.specs.State.{Fronts}
 
@@ -20,17 +20,17 @@ pub record AtFront (F : Type 0) : Type 0 where
   pub word : ℕ
   pub down : Option Down
 
-abbrev pub at_uart : Port → Request → ℕ → Option ℕ → AtFront Port
-at_uart f r reg None = record { front = loaded f reg; word = part_of_word r (load_word f reg); down = None }
-at_uart f r reg (Some value) = record { front = stored f reg value; word = 0; down = store_sent f reg value }
+abbrev pub at_uart : SerialRegisters → Request → ℕ → Option ℕ → AtFront SerialRegisters
+at_uart f r reg None = record { front = serial_loaded f reg; word = part_of_word r (serial_word f reg); down = None }
+at_uart f r reg (Some value) = record { front = serial_stored f reg value; word = 0; down = serial_sent f reg value }
 
-abbrev pub at_gpio : PinRegisters → Request → ℕ → Option ℕ → AtFront PinRegisters
-at_gpio f r reg None = record { front = f; word = part_of_word r (pins_word f reg); down = None }
-at_gpio f r reg (Some value) = record { front = pins_stored f reg value; word = 0; down = pins_sent f reg value }
+abbrev pub at_gpio : GpioRegisters → Request → ℕ → Option ℕ → AtFront GpioRegisters
+at_gpio f r reg None = record { front = f; word = part_of_word r (gpio_word f reg); down = None }
+at_gpio f r reg (Some value) = record { front = gpio_stored f reg value; word = 0; down = gpio_sent f reg value }
 
-abbrev pub at_pwm : DutyRegisters → Request → ℕ → Option ℕ → AtFront DutyRegisters
-at_pwm f r reg None = record { front = f; word = part_of_word r (duty_word f reg); down = None }
-at_pwm f r reg (Some value) = record { front = duty_stored f reg value; word = 0; down = duty_sent f reg value }
+abbrev pub at_pwm : PwmRegisters → Request → ℕ → Option ℕ → AtFront PwmRegisters
+at_pwm f r reg None = record { front = f; word = part_of_word r (pwm_word f reg); down = None }
+at_pwm f r reg (Some value) = record { front = pwm_stored f reg value; word = 0; down = pwm_sent f reg value }
 
 -- the fronts after an access to a unit's registers
 abbrev pub fronts_after : Fronts → Request → ChipUnit → ℕ → Fronts

@@ -2,7 +2,7 @@
 ghost use Rattle.std.specs.Prelude.{◌≡◌, ◌≤◌, ◌*◌, ◌/◌, ◌-◌, ℕ, Ok, Err, IsTrue, length, set, true};
 ghost use Rattle.chip_base.specs.UnitTable.{part_has, unit_has, unit_numbered};
 ghost use Rattle.chip_base.specs.declared.chip_unit.HubPart.TheVariants as part;
-ghost use Rattle.dma_unit.specs.Copier.{is_busy};
+ghost use Rattle.dma_unit.specs.DmaRegisters.{is_busy};
 ghost use Rattle.soc_bus.specs.Map.{admitted};
 ghost use Rattle.chip_hub.specs.Offsets.{fits_at, numbered_has};
 ghost use Rattle.chip_hub.specs.Access.{accessed, in_clint, in_device, in_dma, in_mailbox, in_memory, in_numbered, in_region, in_sysinfo, open_bit, open_word, sysinfo_word};

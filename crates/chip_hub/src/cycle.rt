@@ -2,7 +2,7 @@
 ghost use Rattle.std.specs.Prelude.{◌≡◌, ◌<◌, ◌≤◌, ◌+◌, ◌^◌, ℕ};
 ghost use Rattle.chip_hub.specs.Cycle.{heard, hub_cycle, served, served0, served1, served2, served_to, turn0, turn1, wants_of};
 ghost use Rattle.core_pair.specs.Core.{wanted_in};
-ghost use Rattle.dma_unit.specs.Copier.{wanted as dma_wanted};
+ghost use Rattle.dma_unit.specs.DmaRegisters.{dma_wanted};
 ghost use Rattle.chip_hub.specs.Lines.{fast_lines, mip_of};
 ghost use Rattle.chip_hub.specs.State.{Step};
 ghost use Rattle.chip_hub.specs.Units.{messages_in};

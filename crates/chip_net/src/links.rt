@@ -2,8 +2,8 @@
 ghost use Rattle.std.specs.Prelude.{◌≡◌, ◌<◌, ◌+◌, ◌^◌, suc, IfOk};
 ghost use Rattle.chip_base.specs.Settings.{values_of};
 ghost use Rattle.chip_whole.specs.Chip.{delay_of};
-ghost use Rattle.delay_line.specs.Queue.{empty_line};
-ghost use Rattle.soc_words.specs.Line.{first_of, moved};
+ghost use Rattle.delay_line.specs.Queue.{empty_link};
+ghost use Rattle.soc_words.specs.Link.{link_first, link_moved};
 
 use chip_base::{Down, NoMemory, Setup, Up};
 use delay_line::DelayLine;
@@ -35,8 +35,8 @@ impl Links {
         requires { place < 7 }
         ensures { IfOk result (λ l. l ≡ record {
           cycle = 0;
-          down = empty_line (delay_of (values_of setup.now) place);
-          up = empty_line (delay_of (values_of setup.now) place);
+          down = empty_link (delay_of (values_of setup.now) place);
+          up = empty_link (delay_of (values_of setup.now) place);
         }) }
     {
         let delay = setup.delay[place];
@@ -47,14 +47,14 @@ impl Links {
 
     /// The message that arrives at the unit in this cycle.
     pub(crate) fn at_unit(&self) -> Option<Down>
-        ensures { result ≡ first_of self.now.down }
+        ensures { result ≡ link_first self.now.down }
     {
         self.down.arriving()
     }
 
     /// The message that arrives at the front in this cycle.
     pub(crate) fn at_front(&self) -> Option<Up>
-        ensures { result ≡ first_of self.now.up }
+        ensures { result ≡ link_first self.now.up }
     {
         self.up.arriving()
     }
@@ -62,7 +62,7 @@ impl Links {
     /// Ends the cycle, in which these messages were sent.
     pub(crate) fn step(&mut self, down: Option<Down>, up: Option<Up>)
         requires { self.old.cycle + 4096 < 2 ^ 64 }
-        ensures { self.new ≡ record { cycle = suc self.old.cycle; down = moved self.old.down down; up = moved self.old.up up } }
+        ensures { self.new ≡ record { cycle = suc self.old.cycle; down = link_moved self.old.down down; up = link_moved self.old.up up } }
     {
         self.down.step(down);
         self.up.step(up);

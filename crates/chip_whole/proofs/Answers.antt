@@ -9,39 +9,39 @@ use Rattle.chip_base.specs.declared.message.Down.TheVariants.{Reset, Set}
 use Rattle.chip_base.specs.declared.message.Up.{Up}
 use Rattle.chip_base.specs.Messages.{reset_in, done_in}
 use Rattle.chip_hub.proofs.Fronts.{HearsAnswers, ServesAnswers}
-use Rattle.delay_line.specs.Queue.{empty_line}
-use Rattle.soc_words.specs.Line.{first_of, moved}
+use Rattle.delay_line.specs.Queue.{empty_link}
+use Rattle.soc_words.specs.Link.{link_first, link_moved}
 use Rattle.chip_whole.specs.Credits.{AnswersComing, count_on}
 use Rattle.chip_whole.proofs.Credits.{count_empty, count_more}
 
 -- a cycle of the front, its two lines and its unit
 pub answers_keep : (owed heard after : ℕ) (downs : List (Option Down)) (ups : List (Option Up)) (down : Option Down) (up : Option Up)
-    → 1 ≤ length downs → 1 ≤ length ups → HearsAnswers owed (first_of ups) heard → ServesAnswers heard down after
-    → done_in up ≡ reset_in (first_of downs) → AnswersComing owed downs ups → AnswersComing after (moved downs down) (moved ups up)
+    → 1 ≤ length downs → 1 ≤ length ups → HearsAnswers owed (link_first ups) heard → ServesAnswers heard down after
+    → done_in up ≡ reset_in (link_first downs) → AnswersComing owed downs ups → AnswersComing after (link_moved downs down) (link_moved ups up)
 answers_keep owed heard after [] ups down up l m h s u a = absurd (omega (arith, l))
 answers_keep owed heard after (d ∷ downs) [] down up l m h s u a = absurd (omega (arith, m))
 answers_keep owed heard after (d ∷ downs) (w ∷ ups) down up l m h s u a = by_owed owed refl
   where
-    resets : count_on reset_in (moved (d ∷ downs) down) ≡ count_on reset_in downs + reset_in down
+    resets : count_on reset_in (link_moved (d ∷ downs) down) ≡ count_on reset_in downs + reset_in down
     resets = count_more reset_in downs down
 
-    dones : count_on done_in (moved (w ∷ ups) up) ≡ count_on done_in ups + done_in up
+    dones : count_on done_in (link_moved (w ∷ ups) up) ≡ count_on done_in ups + done_in up
     dones = count_more done_in ups up
 
     coming : owed ≡ reset_in d + count_on reset_in downs + (done_in w + count_on done_in ups)
     coming = a
 
-    by_owed : (n : ℕ) → owed ≡ n → AnswersComing after (moved (d ∷ downs) down) (moved (w ∷ ups) up)
+    by_owed : (n : ℕ) → owed ≡ n → AnswersComing after (link_moved (d ∷ downs) down) (link_moved (w ∷ ups) up)
     by_owed zero e = let none : heard ≡ 0 = h.still e in omega (arith, none, coming, e, resets, dones, s.owed, s.no_reset, u)
     by_owed (suc n) e =
         let left : heard + done_in w ≡ owed = h.answers (omega (arith, e)) in
         omega (arith, left, coming, resets, dones, s.owed, s.no_reset, u)
 
 -- nothing is on its way
-pub answers_start : (downs ups : ℕ) → AnswersComing 0 (empty_line downs) (empty_line ups)
+pub answers_start : (downs ups : ℕ) → AnswersComing 0 (empty_link downs) (empty_link ups)
 answers_start downs ups =
-    let resets : count_on reset_in (empty_line downs) ≡ 0 = count_empty reset_in downs refl in
-    let dones : count_on done_in (empty_line ups) ≡ 0 = count_empty done_in ups refl in
+    let resets : count_on reset_in (empty_link downs) ≡ 0 = count_empty reset_in downs refl in
+    let dones : count_on done_in (empty_link ups) ≡ 0 = count_empty done_in ups refl in
     omega (arith, resets, dones)
 
 -- the units answer exactly a Reset

@@ -8,10 +8,10 @@ use Rattle.chip_base.specs.Entries.{CountsEntries}
 use Rattle.chip_base.specs.Messages.{entry_in, credit_in, reset_in, done_in}
 use Rattle.chip_hub.specs.Cycle.{heard_by}
 use Rattle.chip_hub.proofs.Fronts.{ServesPort}
-use Rattle.delay_line.specs.Queue.{empty_line}
-use Rattle.soc_words.specs.Line.{first_of, moved}
+use Rattle.delay_line.specs.Queue.{empty_link}
+use Rattle.soc_words.specs.Link.{link_first, link_moved}
 use Rattle.unit_fronts.specs.Counts.{HearsUnit}
-use Rattle.unit_fronts.specs.Port.{Port, is_open_of, arrived, credited, received_by, closed, reset_owing}
+use Rattle.unit_fronts.specs.SerialRegisters.{SerialRegisters, serial_is_open, serial_arrived, credited, received_by, serial_closed, serial_front_reset}
 use Rattle.unit_fronts.proofs.Counts.{hears}
 use Rattle.chip_whole.specs.Credits.{count_on, NoneBehind, HasSixteen}
 
@@ -33,29 +33,29 @@ behind_more first second (x ∷ rest) m (inl none) n = (
 behind_more first second (x ∷ rest) m (inr none) n =
     (λ e. absurd (omega (arith, e, none)), behind_more first second rest m (inr (omega (arith, none))) n.1)
 
-open_owes_none : (p : Port) → is_open_of p ≡ true → p.owed ≡ 0
+open_owes_none : (p : SerialRegisters) → serial_is_open p ≡ true → p.owed ≡ 0
 open_owes_none p h = let z : eqb p.owed 0 ≡ true = h in grind (arith, nat_tests)
 
-closed_owes : (p : Port) → is_open_of p ≡ false → 1 ≤ p.owed
+closed_owes : (p : SerialRegisters) → serial_is_open p ≡ false → 1 ≤ p.owed
 closed_owes p h = let z : eqb p.owed 0 ≡ false = h in grind (arith, nat_tests)
 
-owes_is_closed : (p : Port) → 1 ≤ p.owed → is_open_of p ≡ false
+owes_is_closed : (p : SerialRegisters) → 1 ≤ p.owed → serial_is_open p ≡ false
 owes_is_closed p h = grind (arith, nat_tests)
 
-owes_none_is_open : (p : Port) → p.owed ≡ 0 → is_open_of p ≡ true
+owes_none_is_open : (p : SerialRegisters) → p.owed ≡ 0 → serial_is_open p ≡ true
 owes_none_is_open p h = grind (arith, nat_tests)
 
 -- at most all sixteen are in the front
-pub few_credits : (takes : ℕ → Bool) (p : Port) (downs : List (Option Down)) (entries : ℕ) (ups : List (Option Up)) → HasSixteen takes p downs entries ups → p.credits ≤ 16
+pub few_credits : (takes : ℕ → Bool) (p : SerialRegisters) (downs : List (Option Down)) (entries : ℕ) (ups : List (Option Up)) → HasSixteen takes p downs entries ups → p.credits ≤ 16
 few_credits takes p downs entries ups h = by_open _ refl
   where
-    by_open : (b : Bool) → is_open_of p ≡ b → p.credits ≤ 16
+    by_open : (b : Bool) → serial_is_open p ≡ b → p.credits ≤ 16
     by_open true e = let s : p.credits + count_on (entry_in takes) downs + entries + count_on credit_in ups ≡ 16 = h.sum e in omega (arith, s)
     by_open false e = let s : p.credits ≡ 16 = h.all e in omega (arith, s)
 
 -- the front hears what arrives, which leaves the line up
 
-heard_open : (takes : ℕ → Bool) (p : Port) (downs : List (Option Down)) (entries : ℕ) (u : Up) (ups : List (Option Up)) (new : Port) → is_open_of p ≡ true
+heard_open : (takes : ℕ → Bool) (p : SerialRegisters) (downs : List (Option Down)) (entries : ℕ) (u : Up) (ups : List (Option Up)) (new : SerialRegisters) → serial_is_open p ≡ true
     → HearsUnit p u new → new.owed ≡ p.owed → HasSixteen takes p downs entries (Some u ∷ ups) → HasSixteen takes new downs entries ups
 heard_open takes p downs entries u ups new o r owed h =
     let none : p.owed ≡ 0 = open_owes_none p o in
@@ -73,7 +73,7 @@ heard_open takes p downs entries u ups new o r owed h =
       answered = λ e. absurd (omega (arith, e, none, coming));
     }
 
-heard_closed : (takes : ℕ → Bool) (p : Port) (downs : List (Option Down)) (entries : ℕ) (u : Up) (ups : List (Option Up)) (new : Port) → is_open_of p ≡ false
+heard_closed : (takes : ℕ → Bool) (p : SerialRegisters) (downs : List (Option Down)) (entries : ℕ) (u : Up) (ups : List (Option Up)) (new : SerialRegisters) → serial_is_open p ≡ false
     → HearsUnit p u new → HasSixteen takes p downs entries (Some u ∷ ups) → HasSixteen takes new downs entries ups
 heard_closed takes p downs entries u ups new c r h =
     let coming : p.owed ≡ count_on reset_in downs + (done_in (Some u) + count_on done_in ups) = h.answers in
@@ -105,19 +105,19 @@ heard_closed takes p downs entries u ups new c r h =
         at_most false = omega arith
 
 -- an open front waits for no answer after an arrival either
-arrived_owed : (p : Port) (u : Up) → is_open_of p ≡ true → (arrived p u).owed ≡ p.owed
+arrived_owed : (p : SerialRegisters) (u : Up) → serial_is_open p ≡ true → (serial_arrived p u).owed ≡ p.owed
 arrived_owed p u o = rw o (by_done u.done)
   where
-    by_room : (q : Port) (word : ℕ) (b : Bool)
+    by_room : (q : SerialRegisters) (word : ℕ) (b : Bool)
         → (cond b (record q { received = q.received ++ word ∷ [] }) (record q { overrun = true })).owed ≡ q.owed
     by_room q word true = refl
     by_room q word false = refl
 
-    by_has : (q : Port) (has : Bool) (word : ℕ) → (received_by q has word).owed ≡ q.owed
+    by_has : (q : SerialRegisters) (has : Bool) (word : ℕ) → (received_by q has word).owed ≡ q.owed
     by_has q true word = by_room q word (ltb (length q.received) 16)
     by_has q false word = refl
 
-    by_credit : (q : Port) (credit : Bool) → (credited q credit).owed ≡ q.owed
+    by_credit : (q : SerialRegisters) (credit : Bool) → (credited q credit).owed ≡ q.owed
     by_credit q true = refl
     by_credit q false = refl
 
@@ -125,15 +125,15 @@ arrived_owed p u o = rw o (by_done u.done)
     by_done true = refl
     by_done false = by_has (credited p u.credit) u.has u.word ∙ by_credit p u.credit
 
-heard_some : (takes : ℕ → Bool) (p : Port) (downs : List (Option Down)) (entries : ℕ) (u : Up) (ups : List (Option Up)) → HasSixteen takes p downs entries (Some u ∷ ups)
-    → HasSixteen takes (arrived p u) downs entries ups
+heard_some : (takes : ℕ → Bool) (p : SerialRegisters) (downs : List (Option Down)) (entries : ℕ) (u : Up) (ups : List (Option Up)) → HasSixteen takes p downs entries (Some u ∷ ups)
+    → HasSixteen takes (serial_arrived p u) downs entries ups
 heard_some takes p downs entries u ups h = by_open _ refl
   where
-    by_open : (b : Bool) → is_open_of p ≡ b → HasSixteen takes (arrived p u) downs entries ups
-    by_open true e = heard_open takes p downs entries u ups (arrived p u) e (hears p u (few_credits takes p downs entries (Some u ∷ ups) h)) (arrived_owed p u e) h
-    by_open false e = heard_closed takes p downs entries u ups (arrived p u) e (hears p u (few_credits takes p downs entries (Some u ∷ ups) h)) h
+    by_open : (b : Bool) → serial_is_open p ≡ b → HasSixteen takes (serial_arrived p u) downs entries ups
+    by_open true e = heard_open takes p downs entries u ups (serial_arrived p u) e (hears p u (few_credits takes p downs entries (Some u ∷ ups) h)) (arrived_owed p u e) h
+    by_open false e = heard_closed takes p downs entries u ups (serial_arrived p u) e (hears p u (few_credits takes p downs entries (Some u ∷ ups) h)) h
 
-heard_none : (takes : ℕ → Bool) (p : Port) (downs : List (Option Down)) (entries : ℕ) (ups : List (Option Up)) → HasSixteen takes p downs entries (None ∷ ups)
+heard_none : (takes : ℕ → Bool) (p : SerialRegisters) (downs : List (Option Down)) (entries : ℕ) (ups : List (Option Up)) → HasSixteen takes p downs entries (None ∷ ups)
     → HasSixteen takes p downs entries ups
 heard_none takes p downs entries ups h = record {
   sum = λ e. omega (arith, h.sum e);
@@ -145,14 +145,14 @@ heard_none takes p downs entries ups h = record {
   answered = λ e. h.answered (omega (arith, e));
 }
 
-pub heard_keeps : (takes : ℕ → Bool) (p : Port) (downs : List (Option Down)) (entries : ℕ) (up : Option Up) (ups : List (Option Up)) → HasSixteen takes p downs entries (up ∷ ups)
+pub heard_keeps : (takes : ℕ → Bool) (p : SerialRegisters) (downs : List (Option Down)) (entries : ℕ) (up : Option Up) (ups : List (Option Up)) → HasSixteen takes p downs entries (up ∷ ups)
     → HasSixteen takes (heard_by p up) downs entries ups
 heard_keeps takes p downs entries None ups h = heard_none takes p downs entries ups h
 heard_keeps takes p downs entries (Some u) ups h = heard_some takes p downs entries u ups h
 
 -- the front sends a message, which is the last on the line down
 
-pub served_keeps : (takes : ℕ → Bool) (p : Port) (downs : List (Option Down)) (entries : ℕ) (ups : List (Option Up)) (down : Option Down) (new : Port)
+pub served_keeps : (takes : ℕ → Bool) (p : SerialRegisters) (downs : List (Option Down)) (entries : ℕ) (ups : List (Option Up)) (down : Option Down) (new : SerialRegisters)
     → ServesPort takes p down new → HasSixteen takes p downs entries ups → HasSixteen takes new (downs ++ down ∷ []) entries ups
 served_keeps takes p downs entries ups down new s h = by_open _ refl
   where
@@ -162,7 +162,7 @@ served_keeps takes p downs entries ups down new s h = by_open _ refl
     resets : count_on reset_in (downs ++ down ∷ []) ≡ count_on reset_in downs + reset_in down
     resets = count_more reset_in downs down
 
-    by_open : (b : Bool) → is_open_of p ≡ b → HasSixteen takes new (downs ++ down ∷ []) entries ups
+    by_open : (b : Bool) → serial_is_open p ≡ b → HasSixteen takes new (downs ++ down ∷ []) entries ups
     by_open true e =
         let none : p.owed ≡ 0 = open_owes_none p e in
         let coming : p.owed ≡ count_on reset_in downs + count_on done_in ups = h.answers in
@@ -197,16 +197,16 @@ served_keeps takes p downs entries ups down new s h = by_open _ refl
 
 -- the front closes, and its Reset is the last on the line down
 
-pub closed_keeps : (takes : ℕ → Bool) (p : Port) (downs : List (Option Down)) (entries : ℕ) (ups : List (Option Up)) → p.owed < 8192
-    → HasSixteen takes p downs entries ups → HasSixteen takes (closed p) (downs ++ Some Reset ∷ []) entries ups
+pub closed_keeps : (takes : ℕ → Bool) (p : SerialRegisters) (downs : List (Option Down)) (entries : ℕ) (ups : List (Option Up)) → p.owed < 8192
+    → HasSixteen takes p downs entries ups → HasSixteen takes (serial_closed p) (downs ++ Some Reset ∷ []) entries ups
 closed_keeps takes p downs entries ups l h =
     let coming : p.owed ≡ count_on reset_in downs + count_on done_in ups = h.answers in
     let small : count_on (entry_in takes) downs + entries + count_on credit_in ups ≤ 16 = h.room in
     let datas : count_on (entry_in takes) (downs ++ Some Reset ∷ []) ≡ count_on (entry_in takes) downs + 0 = count_more (entry_in takes) downs (Some Reset) in
     let resets : count_on reset_in (downs ++ Some Reset ∷ []) ≡ count_on reset_in downs + 1 = count_more reset_in downs (Some Reset) in
-    let owed : (closed p).owed ≡ p.owed + 1 = omega (arith, l) in
+    let owed : (serial_closed p).owed ≡ p.owed + 1 = omega (arith, l) in
     record {
-      sum = λ f. absurd (omega (arith, open_owes_none (closed p) f, owed));
+      sum = λ f. absurd (omega (arith, open_owes_none (serial_closed p) f, owed));
       all = λ f. refl;
       room = omega (arith, small, datas);
       answers = omega (arith, owed, coming, resets);
@@ -222,7 +222,7 @@ reset_or_not None = inl refl
 reset_or_not (Some Reset) = inr refl
 reset_or_not (Some (Set reg word)) = inl refl
 
-pub unit_keeps : (takes : ℕ → Bool) (p : Port) (down : Option Down) (downs : List (Option Down)) (entries new : ℕ) (ups : List (Option Up)) (up : Option Up)
+pub unit_keeps : (takes : ℕ → Bool) (p : SerialRegisters) (down : Option Down) (downs : List (Option Down)) (entries new : ℕ) (ups : List (Option Up)) (up : Option Up)
     → CountsEntries takes entries down new up → HasSixteen takes p (down ∷ downs) entries ups → HasSixteen takes p downs new (ups ++ up ∷ [])
 unit_keeps takes p down downs entries new ups up u h = by_reset (reset_or_not down)
   where
@@ -272,9 +272,9 @@ unit_keeps takes p down downs entries new ups up u h = by_reset (reset_or_not do
         }
 
 -- a cycle of all four: each takes what arrives in it, and sends its message
-pub cycle_keeps : (takes : ℕ → Bool) (p : Port) (downs : List (Option Down)) (entries : ℕ) (ups : List (Option Up)) (down : Option Down) (new : Port) (after : ℕ) (up : Option Up)
-    → 1 ≤ length downs → 1 ≤ length ups → ServesPort takes (heard_by p (first_of ups)) down new → CountsEntries takes entries (first_of downs) after up
-    → HasSixteen takes p downs entries ups → HasSixteen takes new (moved downs down) after (moved ups up)
+pub cycle_keeps : (takes : ℕ → Bool) (p : SerialRegisters) (downs : List (Option Down)) (entries : ℕ) (ups : List (Option Up)) (down : Option Down) (new : SerialRegisters) (after : ℕ) (up : Option Up)
+    → 1 ≤ length downs → 1 ≤ length ups → ServesPort takes (heard_by p (link_first ups)) down new → CountsEntries takes entries (link_first downs) after up
+    → HasSixteen takes p downs entries ups → HasSixteen takes new (link_moved downs down) after (link_moved ups up)
 cycle_keeps takes p [] entries ups down new after up l m s u h = absurd (omega (arith, l))
 cycle_keeps takes p (d ∷ downs) entries [] down new after up l m s u h = absurd (omega (arith, m))
 cycle_keeps takes p (d ∷ downs) entries (w ∷ ups) down new after up l m s u h =
@@ -284,23 +284,23 @@ cycle_keeps takes p (d ∷ downs) entries (w ∷ ups) down new after up l m s u 
 
 -- nothing on its way
 
-pub count_empty : {M : Type 0} (count : Option M → ℕ) (delay : ℕ) → count None ≡ 0 → count_on count (empty_line delay) ≡ 0
-unfolding empty_line
+pub count_empty : {M : Type 0} (count : Option M → ℕ) (delay : ℕ) → count None ≡ 0 → count_on count (empty_link delay) ≡ 0
+unfolding empty_link
 count_empty count zero e = refl
-count_empty count (suc n) e = let rest : count_on count (empty_line n) ≡ 0 = count_empty count n e in omega (arith, e, rest)
+count_empty count (suc n) e = let rest : count_on count (empty_link n) ≡ 0 = count_empty count n e in omega (arith, e, rest)
 
-behind_empty : {M : Type 0} (first second : Option M → ℕ) (delay : ℕ) → first None ≡ 0 → NoneBehind first second (empty_line delay)
-unfolding empty_line
+behind_empty : {M : Type 0} (first second : Option M → ℕ) (delay : ℕ) → first None ≡ 0 → NoneBehind first second (empty_link delay)
+unfolding empty_link
 behind_empty first second zero e = tt
 behind_empty first second (suc n) e = (λ f. absurd (omega (arith, e, f)), behind_empty first second n e)
 
 -- at power-on
-pub start_has : (takes : ℕ → Bool) (downs ups : ℕ) → HasSixteen takes (reset_owing 0) (empty_line downs) 0 (empty_line ups)
+pub start_has : (takes : ℕ → Bool) (downs ups : ℕ) → HasSixteen takes (serial_front_reset 0) (empty_link downs) 0 (empty_link ups)
 start_has takes downs ups =
-    let entries : count_on (entry_in takes) (empty_line downs) ≡ 0 = count_empty (entry_in takes) downs refl in
-    let credits : count_on credit_in (empty_line ups) ≡ 0 = count_empty credit_in ups refl in
-    let resets : count_on reset_in (empty_line downs) ≡ 0 = count_empty reset_in downs refl in
-    let dones : count_on done_in (empty_line ups) ≡ 0 = count_empty done_in ups refl in
+    let entries : count_on (entry_in takes) (empty_link downs) ≡ 0 = count_empty (entry_in takes) downs refl in
+    let credits : count_on credit_in (empty_link ups) ≡ 0 = count_empty credit_in ups refl in
+    let resets : count_on reset_in (empty_link downs) ≡ 0 = count_empty reset_in downs refl in
+    let dones : count_on done_in (empty_link ups) ≡ 0 = count_empty done_in ups refl in
     record {
       sum = λ e. omega (arith, entries, credits);
       all = λ e. refl;
@@ -313,14 +313,14 @@ start_has takes downs ups =
 
 -- a line keeps its length
 
-moved_length : {M : Type 0} (line : List (Option M)) (m : Option M) → length (moved line m) ≡ length line
+moved_length : {M : Type 0} (line : List (Option M)) (m : Option M) → length (link_moved line m) ≡ length line
 moved_length [] m = refl
 moved_length (x ∷ rest) m = length-append rest (m ∷ []) ∙ omega arith
 
-pub moved_some : {M : Type 0} (line : List (Option M)) (m : Option M) → 1 ≤ length line → 1 ≤ length (moved line m)
+pub moved_some : {M : Type 0} (line : List (Option M)) (m : Option M) → 1 ≤ length line → 1 ≤ length (link_moved line m)
 moved_some line m l = omega (arith, l, moved_length line m)
 
-pub empty_some : (M : Type 0) (delay : ℕ) → 1 ≤ delay → 1 ≤ length (empty_line {M = M} delay)
-unfolding empty_line
+pub empty_some : (M : Type 0) (delay : ℕ) → 1 ≤ delay → 1 ≤ length (empty_link {M = M} delay)
+unfolding empty_link
 empty_some M zero l = absurd (omega (arith, l))
 empty_some M (suc n) l = omega arith

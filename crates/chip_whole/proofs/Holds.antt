@@ -13,13 +13,13 @@ use Rattle.board_units.specs.GpioCycle.{gpio_cycle}
 use Rattle.board_units.specs.PwmCycle.{pwm_cycle}
 use Rattle.chip_hub.specs.Start.{start as hub_start}
 use Rattle.chip_hub.proofs.Fronts.{gpio_hears, pwm_hears, serves_gpio, serves_pwm, serves_uart0, serves_uart1}
-use Rattle.soc_words.specs.Line.{first_of}
+use Rattle.soc_words.specs.Link.{link_first}
 use Rattle.uart_lane.specs.Counts.{bytes_out}
 use Rattle.uart_lane.specs.Cycle.{unit_cycle}
 use Rattle.uart_lane.specs.State.{State as Uart}
 use Rattle.uart_lane.proofs.Counts.{keeps_count}
 use Rattle.uart_lane.proofs.Order.{keeps_order}
-use Rattle.unit_fronts.specs.Port.{Port}
+use Rattle.unit_fronts.specs.SerialRegisters.{SerialRegisters}
 use Rattle.chip_whole.specs.Chip.{Board, State, after, arriving, delay_of, start, tick, told_by_units}
 use Rattle.chip_whole.specs.Credits.{CreditsHold, HasSixteen, LosesNone, ServesUnit, UartLosesNone, count_on, waiting_in}
 use Rattle.chip_whole.specs.Joined.{Joined, event_of}
@@ -68,10 +68,10 @@ credits_after : (board : Board) (c : State) (n : ℕ) → CreditsHold c → Cred
 credits_after board c n = kept_after board CreditsHold (credits_tick board) c n
 
 -- where the unit has room for the entries that come, none is lost
-uart_loses_none : (p : Port) (j : Joined Uart) (now : ℕ) → ServesUnit at_data p waiting_in j → UartLosesNone j.unit now (first_of j.down)
-uart_loses_none p j now h r = (keeps_order j.unit now (first_of j.down)).bytes r (by_line j.down h.sixteen)
+uart_loses_none : (p : SerialRegisters) (j : Joined Uart) (now : ℕ) → ServesUnit at_data p waiting_in j → UartLosesNone j.unit now (link_first j.down)
+uart_loses_none p j now h r = (keeps_order j.unit now (link_first j.down)).bytes r (by_line j.down h.sixteen)
   where
-    by_line : (downs : List (Option Down)) → HasSixteen at_data p downs (length j.unit.fifo) j.up → length j.unit.fifo + entry_in at_data (first_of downs) ≤ 16
+    by_line : (downs : List (Option Down)) → HasSixteen at_data p downs (length j.unit.fifo) j.up → length j.unit.fifo + entry_in at_data (link_first downs) ≤ 16
     by_line [] h = let small : 0 + length j.unit.fifo + count_on credit_in j.up ≤ 16 = h.room in omega (arith, small)
     by_line (d ∷ downs) h =
         let small : entry_in at_data d + count_on (entry_in at_data) downs + length j.unit.fifo + count_on credit_in j.up ≤ 16 = h.room in
@@ -90,11 +90,11 @@ record NumbersStay (c : State) : Type 0 where
   uart0 : c.units.uart0.unit.number ≡ 1
   uart1 : c.units.uart1.unit.number ≡ 2
 
-uart_number : (j : Joined Uart) (now number : ℕ) → j.unit.number ≡ number → (unit_cycle j.unit now (first_of j.down)).unit.number ≡ number
-uart_number j now number e = (uart_tells j.unit now (first_of j.down)).number ∙ e
+uart_number : (j : Joined Uart) (now number : ℕ) → j.unit.number ≡ number → (unit_cycle j.unit now (link_first j.down)).unit.number ≡ number
+uart_number j now number e = (uart_tells j.unit now (link_first j.down)).number ∙ e
 
 uart_event : (j : Joined Uart) (now number : ℕ) → j.unit.number ≡ number → ToldAt number now (event_of unit_cycle j now)
-uart_event j now number e = subst (λ unit. ToldAt unit now (event_of unit_cycle j now)) e (uart_tells j.unit now (first_of j.down)).event
+uart_event j now number e = subst (λ unit. ToldAt unit now (event_of unit_cycle j now)) e (uart_tells j.unit now (link_first j.down)).event
 
 numbers_tick : (board : Board) (c : State) → NumbersStay c → NumbersStay (tick board c)
 unfolding tick

@@ -5,8 +5,8 @@ use Rattle.std.proofs.lemmas.Bool.Decides.{nat_tests}
 use Rattle.chip_base.specs.Messages.{reset_in}
 use Rattle.chip_base.specs.declared.event.Event.{Event}
 use Rattle.chip_base.specs.declared.message.Down.{Down}
-use Rattle.delay_line.specs.Queue.{empty_line}
-use Rattle.soc_words.specs.Line.{first_of, moved}
+use Rattle.delay_line.specs.Queue.{empty_link}
+use Rattle.soc_words.specs.Link.{link_first, link_moved}
 use Rattle.uart_lane.specs.Counts.{bytes_in, bytes_out}
 use Rattle.chip_whole.specs.Credits.{count_on}
 use Rattle.chip_whole.specs.Sent.{bytes_on, told_by}
@@ -37,8 +37,8 @@ in_order sent told fifo here later more out left all step =
 
 -- one cycle: the first place arrives, the unit tells and keeps, and a message is sent down
 pub keeps : (sent told fifo left out : List ℕ) (resets : ℕ) (line : List (Option Down)) (d : Option Down) → 1 ≤ length line
-    → (reset_in (first_of line) ≡ 0 → fifo ++ bytes_in (first_of line) ≡ out ++ left) → Keeps sent resets told fifo line
-    → Keeps (sent ++ bytes_in d) (resets + reset_in d) (told ++ out) left (moved line d)
+    → (reset_in (link_first line) ≡ 0 → fifo ++ bytes_in (link_first line) ≡ out ++ left) → Keeps sent resets told fifo line
+    → Keeps (sent ++ bytes_in d) (resets + reset_in d) (told ++ out) left (link_moved line d)
 keeps sent told fifo left out resets [] d l step k = absurd (omega (arith, l))
 keeps sent told fifo left out resets (m ∷ rest) d l step k = record {
   bytes = λ none.
@@ -50,17 +50,17 @@ keeps sent told fifo left out resets (m ∷ rest) d l step k = record {
 }
 
 -- an empty line has no byte and no Reset
-bytes_empty : (delay : ℕ) → bytes_on (empty_line delay) ≡ []
-unfolding empty_line
+bytes_empty : (delay : ℕ) → bytes_on (empty_link delay) ≡ []
+unfolding empty_link
 bytes_empty zero = refl
 bytes_empty (suc n) = bytes_empty n
 
-resets_empty : (delay : ℕ) → count_on reset_in (empty_line delay) ≡ 0
-unfolding empty_line
+resets_empty : (delay : ℕ) → count_on reset_in (empty_link delay) ≡ 0
+unfolding empty_link
 resets_empty zero = refl
 resets_empty (suc n) = omega (arith, resets_empty n)
 
-pub keeps_start : (delay : ℕ) → Keeps [] 0 [] [] (empty_line delay)
+pub keeps_start : (delay : ℕ) → Keeps [] 0 [] [] (empty_link delay)
 keeps_start delay = record { bytes = λ none. sym (bytes_empty delay); few = omega (arith, resets_empty delay) }
 
 -- what the events of a cycle add for a unit

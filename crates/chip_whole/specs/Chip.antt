@@ -15,7 +15,7 @@ use Rattle.chip_base.specs.Settings.{Values}
 use Rattle.chip_hub.specs.Cycle.{hub_cycle}
 use Rattle.chip_hub.specs.Start.{start as hub_start}
 use Rattle.chip_hub.specs.State.{State as Hub, Step}
-use Rattle.soc_words.specs.Line.{first_of}
+use Rattle.soc_words.specs.Link.{link_first}
 use Rattle.uart_lane.specs.Cycle.{unit_cycle}
 use Rattle.uart_lane.specs.State.{State as Uart, power_on}
 use Rattle.chip_whole.specs.Joined.{Joined, event_of, joined_after, joined_start}
@@ -37,7 +37,7 @@ pub record Units : Type 0 where
 
 -- what arrives at the hub in this cycle, by unit
 abbrev pub arriving : Units → List (Option Up)
-arriving u = first_of u.uart0.up ∷ first_of u.uart1.up ∷ None ∷ first_of u.gpio.up ∷ first_of u.pwm.up ∷ None ∷ None ∷ []
+arriving u = link_first u.uart0.up ∷ link_first u.uart1.up ∷ None ∷ link_first u.gpio.up ∷ link_first u.pwm.up ∷ None ∷ None ∷ []
 
 -- the units after a cycle in which this was sent down, by unit
 abbrev pub units_after : Board → Units → ℕ → List (Option Down) → Units

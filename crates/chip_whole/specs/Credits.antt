@@ -3,8 +3,8 @@ use Rattle.std.specs.Prelude.{◌≡◌, ◌≤◌, ℕ, ◌+◌, Bool, List, []
 use Rattle.chip_base.specs.declared.message.Down.{Down}
 use Rattle.chip_base.specs.declared.message.Up.{Up}
 use Rattle.chip_base.specs.Messages.{at_data, entry_in, credit_in, reset_in, done_in}
-use Rattle.unit_fronts.specs.Port.{Port, is_open_of}
-use Rattle.soc_words.specs.Line.{first_of}
+use Rattle.unit_fronts.specs.SerialRegisters.{SerialRegisters, serial_is_open}
+use Rattle.soc_words.specs.Link.{link_first}
 use Rattle.uart_lane.specs.Counts.{bytes_in, bytes_out}
 use Rattle.uart_lane.specs.Cycle.{unit_cycle}
 use Rattle.uart_lane.specs.State.{State as Uart}
@@ -26,11 +26,11 @@ abbrev pub AnswersComing : ℕ → List (Option Down) → List (Option Up) → T
 AnswersComing owed downs ups = owed ≡ count_on reset_in downs + count_on done_in ups
 
 -- the credits of a front, the entries that it sent and its unit holds, and the Resets
-pub record HasSixteen (takes : ℕ → Bool) (front : Port) (downs : List (Option Down)) (entries : ℕ) (ups : List (Option Up)) : Type 0 where
+pub record HasSixteen (takes : ℕ → Bool) (front : SerialRegisters) (downs : List (Option Down)) (entries : ℕ) (ups : List (Option Up)) : Type 0 where
   -- all credits of an open front are in it, or with an entry on its way down or in the unit, or on their way up
-  pub sum : is_open_of front ≡ true → front.credits + count_on (entry_in takes) downs + entries + count_on credit_in ups ≡ 16
+  pub sum : serial_is_open front ≡ true → front.credits + count_on (entry_in takes) downs + entries + count_on credit_in ups ≡ 16
   -- a closed front has all sixteen, whatever is still on its way
-  pub all : is_open_of front ≡ false → front.credits ≡ 16
+  pub all : serial_is_open front ≡ false → front.credits ≡ 16
   -- the unit has room for each entry that comes
   pub room : count_on (entry_in takes) downs + entries + count_on credit_in ups ≤ 16
   pub answers : AnswersComing front.owed downs ups
@@ -49,7 +49,7 @@ pub record HasPlaces {S : Type 0} (j : Joined S) : Type 0 where
   pub up : 1 ≤ length j.up
 
 -- a front, and its unit whose entries are counted by `entries`
-pub record ServesUnit {S : Type 0} (takes : ℕ → Bool) (front : Port) (entries : S → ℕ) (j : Joined S) : Type 0 where
+pub record ServesUnit {S : Type 0} (takes : ℕ → Bool) (front : SerialRegisters) (entries : S → ℕ) (j : Joined S) : Type 0 where
   pub places : HasPlaces j
   pub sixteen : HasSixteen takes front j.down (entries j.unit) j.up
 
@@ -71,5 +71,5 @@ UartLosesNone s now down = reset_in down ≡ 0 → s.fifo ++ bytes_in down ≡ b
 
 -- no byte is lost in the cycle that comes next
 pub record LosesNone (c : State) : Type 0 where
-  pub uart0 : UartLosesNone c.units.uart0.unit c.cycle (first_of c.units.uart0.down)
-  pub uart1 : UartLosesNone c.units.uart1.unit c.cycle (first_of c.units.uart1.down)
+  pub uart0 : UartLosesNone c.units.uart0.unit c.cycle (link_first c.units.uart0.down)
+  pub uart1 : UartLosesNone c.units.uart1.unit c.cycle (link_first c.units.uart1.down)

@@ -4,8 +4,8 @@ use Rattle.chip_base.specs.Given.{Given}
 use Rattle.chip_base.specs.declared.event.Event.{Event}
 use Rattle.chip_base.specs.declared.message.Down.{Down}
 use Rattle.chip_base.specs.declared.message.Up.{Up}
-use Rattle.delay_line.specs.Queue.{empty_line}
-use Rattle.soc_words.specs.Line.{first_of, moved}
+use Rattle.delay_line.specs.Queue.{empty_link}
+use Rattle.soc_words.specs.Link.{link_first, link_moved}
 
 pub record Joined (S : Type 0) : Type 0 where
   pub unit : S
@@ -19,11 +19,11 @@ CycleOf S = S → ℕ → Option Down → Given S
 
 -- what the unit gives in a cycle
 abbrev pub given_by : {S : Type 0} → CycleOf S → Joined S → ℕ → Given S
-given_by cycle j now = cycle j.unit now (first_of j.down)
+given_by cycle j now = cycle j.unit now (link_first j.down)
 
 -- after a cycle in which this was sent down
 abbrev pub joined_after : {S : Type 0} → CycleOf S → Joined S → ℕ → Option Down → Joined S
-joined_after cycle j now sent = record { unit = (given_by cycle j now).unit; down = moved j.down sent; up = moved j.up (given_by cycle j now).up }
+joined_after cycle j now sent = record { unit = (given_by cycle j now).unit; down = link_moved j.down sent; up = link_moved j.up (given_by cycle j now).up }
 
 -- the event of the cycle, if one comes
 abbrev pub event_of : {S : Type 0} → CycleOf S → Joined S → ℕ → Option Event
@@ -31,4 +31,4 @@ event_of cycle j now = (given_by cycle j now).event
 
 -- nothing is on its way
 abbrev pub joined_start : {S : Type 0} → S → ℕ → Joined S
-joined_start unit delay = record { unit = unit; down = empty_line delay; up = empty_line delay }
+joined_start unit delay = record { unit = unit; down = empty_link delay; up = empty_link delay }
