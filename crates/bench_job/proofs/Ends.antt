@@ -15,7 +15,7 @@ use Rattle.bench_plan.proofs.Keeping.{answers_from}
 use Rattle.bench_shelf.specs.Held.{Held}
 use Rattle.bench_words.specs.Jobs.{Job}
 use Rattle.chip_base.specs.Settings.{Values}
-use Rattle.chip_whole.specs.Chip.{State}
+use Rattle.chip_whole.specs.Chip.{ChipState}
 use Rattle.bench_job.specs.Plans.{image_step, plan_of, report_step, run_plan, seat_reading, settings_step, usage_fault}
 use Rattle.bench_job.specs.Statuses.{IsStatus, IsTooLarge}
 
@@ -122,7 +122,7 @@ too_large_image job h f c four = by_seat (comes_split h (seat_reading job) (repo
     err_same e = cc
 
     by_image : (v : Values) → Comes h (settings_reading job.chip) (Ok v)
-        → ((e : Fault) × (◌≡◌ {A = Result State Fault} (Err f) (Err e)) × Comes h (image_reading v.imem job.image) (Err e))
+        → ((e : Fault) × (◌≡◌ {A = Result ChipState Fault} (Err f) (Err e)) × Comes h (image_reading v.imem job.image) (Err e))
         ⊎ ((image : List ℕ) × Comes h (image_reading v.imem job.image) (Ok image) × Comes h (image_step job v image) (Err f))
         → (v : Values) × Comes h (settings_reading job.chip) (Ok v) × Comes h (image_reading v.imem job.image) (Err f)
     by_image v s (inl x) = (v, s, subst (λ e. Comes h (image_reading v.imem job.image) (Err e)) (sym (err_same x.1)) x.2)
@@ -132,14 +132,14 @@ too_large_image job h f c four = by_seat (comes_split h (seat_reading job) (repo
         image_step_status k = comes_ends Any (HasStatus 5) h (image_step job v x.0) (Err f)
             (ends_then Any Any (HasStatus 5) (script_reading job.script) _ (script_ends job.script) (λ script u. tt)) k
 
-    by_settings : ((e : Fault) × (◌≡◌ {A = Result State Fault} (Err f) (Err e)) × Comes h (settings_reading job.chip) (Err e))
+    by_settings : ((e : Fault) × (◌≡◌ {A = Result ChipState Fault} (Err f) (Err e)) × Comes h (settings_reading job.chip) (Err e))
         ⊎ ((v : Values) × Comes h (settings_reading job.chip) (Ok v) × Comes h (settings_step job v) (Err f))
         → (v : Values) × Comes h (settings_reading job.chip) (Ok v) × Comes h (image_reading v.imem job.image) (Err f)
     by_settings (inl x) = absurd (grind (arith, four, comes_ends Any (HasStatus 6) h (settings_reading job.chip) (Err x.0) (settings_ends job.chip) x.2, ap (λ e. e.status) (err_same x.1)))
     by_settings (inr x) = by_image x.0 x.1 (comes_split h (image_reading x.0.imem job.image) (image_step job x.0) (Err f) x.2)
 
     by_seat : ((e : Fault) × (◌≡◌ {A = Result Done Fault} (Err f) (Err e)) × Comes h (seat_reading job) (Err e))
-        ⊎ ((chip : State) × Comes h (seat_reading job) (Ok chip) × Comes h (report_step job.cycles chip) (Err f))
+        ⊎ ((chip : ChipState) × Comes h (seat_reading job) (Ok chip) × Comes h (report_step job.cycles chip) (Err f))
         → (v : Values) × Comes h (settings_reading job.chip) (Ok v) × Comes h (image_reading v.imem job.image) (Err f)
     by_seat (inl x) = by_settings (comes_split h (settings_reading job.chip) (settings_step job) (Err f)
         (subst (λ e. Comes h (seat_reading job) (Err e)) (sym (err_same x.1)) x.2))

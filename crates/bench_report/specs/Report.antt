@@ -4,7 +4,7 @@ use Rattle.std.specs.List.{flat_map, list_all}
 use Rattle.hex.specs.Hex.{encode_lower}
 use Rattle.soc_words.specs.Text.{hex_word, line, joined_below}
 use Rattle.chip_hub.specs.Cycle.{boot_view, hart_view}
-use Rattle.chip_whole.specs.Chip.{State}
+use Rattle.chip_whole.specs.Chip.{ChipState}
 use Rattle.chip_base.specs.declared.boot.BootView.{BootView}
 use Rattle.chip_base.specs.declared.boot.BootView.TheVariants.{Raw, Direct, Monitor as ByMonitor, Handed}
 use Rattle.chip_base.specs.declared.event.Event.{Event}
@@ -124,7 +124,7 @@ abbrev pub report : Shown → List ℕ
 report s = head_text s ++ harts_text s ++ tail_text s
 
 -- what a report shows of a chip after this many cycles
-abbrev pub shown : State → ℕ → Shown
+abbrev pub shown : ChipState → ℕ → Shown
 shown chip cycles = record {
   cycles = cycles;
   events = chip.events;

@@ -12,7 +12,7 @@ use Rattle.chip_base.specs.Runs.{unit_after}
 use Rattle.chip_base.specs.Steps.{are_pins, are_pins_from, is_pin}
 use Rattle.board_units.specs.GpioCycle.{with_level, inputs_after, still_to_come, gpio_cycle}
 use Rattle.board_units.specs.GpioScript.{ChangesNow, FollowsScript, level_bit, level_by}
-use Rattle.board_units.specs.GpioState.{GpioState, power_on}
+use Rattle.board_units.specs.GpioState.{GpioState, gpio_start}
 use Rattle.board_units.proofs.Compared.{at_most, is_at_most, is_below, is_from, later, not_below}
 use Rattle.board_units.proofs.Pins.{left_true, right_true}
 
@@ -149,7 +149,7 @@ next-level last now q (p ∷ ps) level h = by_cycle _ refl (λ l. next-level p.c
 -- from power-on
 
 abbrev pins_unit : List PinStep → (ℕ → Option Down) → ℕ → GpioState
-pins_unit ps downs now = unit_after gpio_cycle (power_on ps) 0 downs now
+pins_unit ps downs now = unit_after gpio_cycle (gpio_start ps) 0 downs now
 
 record Moves (old : GpioState) (now : ℕ) (new : GpioState) : Type 0 where
   pins : new.pins ≡ still_to_come now old.pins
@@ -161,12 +161,12 @@ cycle-moves s now down = record { pins = refl; inputs = refl }
 
 next-moves : (ps : List PinStep) (downs : ℕ → Option Down) (now : ℕ) → Moves (pins_unit ps downs now) now (pins_unit ps downs (suc now))
 next-moves ps downs now =
-    subst (Moves (pins_unit ps downs now) now) (sym (after_more gpio_cycle (power_on ps) 0 downs now))
-    (subst (λ g. Moves (pins_unit ps downs now) now g.unit) (sym (given_from_zero gpio_cycle (power_on ps) downs now))
+    subst (Moves (pins_unit ps downs now) now) (sym (after_more gpio_cycle (gpio_start ps) 0 downs now))
+    (subst (λ g. Moves (pins_unit ps downs now) now g.unit) (sym (given_from_zero gpio_cycle (gpio_start ps) downs now))
     (cycle-moves (pins_unit ps downs now) now (downs now)))
 
-first-unit : (ps : List PinStep) (downs : ℕ → Option Down) → pins_unit ps downs 0 ≡ power_on ps
-first-unit ps downs = after_none gpio_cycle (power_on ps) 0 downs
+first-unit : (ps : List PinStep) (downs : ℕ → Option Down) → pins_unit ps downs 0 ≡ gpio_start ps
+first-unit ps downs = after_none gpio_cycle (gpio_start ps) 0 downs
 
 pins-are : (ps : List PinStep) (downs : ℕ → Option Down) (now : ℕ) → (pins_unit ps downs (suc now)).pins ≡ still_to_come now ps
 pins-are ps downs zero = (next-moves ps downs 0).pins ∙ ap (λ u. still_to_come 0 u.pins) (first-unit ps downs)

@@ -6,7 +6,7 @@ use Rattle.chip_base.specs.Steps.{are_pins}
 use Rattle.chip_base.specs.declared.message.Down.{Down}
 use Rattle.chip_base.specs.declared.script.PinStep.{PinStep}
 use Rattle.board_units.specs.GpioCycle.{gpio_cycle}
-use Rattle.board_units.specs.GpioState.{GpioState, power_on}
+use Rattle.board_units.specs.GpioState.{GpioState, gpio_start}
 
 -- 1 for high and 0 for low
 abbrev pub level_bit : Bool → ℕ
@@ -25,4 +25,4 @@ ChangesNow s now after = are_pins s.pins ≡ true → (pin : ℕ) → pin < 32
 -- from power-on before the cycle 0, each pin has in each cycle the level that a valid script has given it, whatever the messages are
 abbrev pub FollowsScript : List PinStep → Type 0
 FollowsScript pins = are_pins pins ≡ true → (downs : ℕ → Option Down) (now pin : ℕ) → pin < 32
-    → bit_at (unit_after gpio_cycle (power_on pins) 0 downs (suc now)).inputs pin ≡ level_by (λ cycle. nat_le cycle now) pin pins 0
+    → bit_at (unit_after gpio_cycle (gpio_start pins) 0 downs (suc now)).inputs pin ≡ level_by (λ cycle. nat_le cycle now) pin pins 0

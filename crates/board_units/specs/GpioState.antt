@@ -10,5 +10,5 @@ pub record GpioState : Type 0 where
   pub outputs : ℕ
 
 -- the unit at power-on, with the whole script to come
-abbrev pub power_on : List PinStep → GpioState
-power_on pins = record { pins = pins; inputs = 0; outputs = 0 }
+abbrev pub gpio_start : List PinStep → GpioState
+gpio_start pins = record { pins = pins; inputs = 0; outputs = 0 }

@@ -6,7 +6,7 @@ use Rattle.chip_base.specs.declared.message.Down.TheVariants.{Reset, Set}
 use Rattle.chip_base.specs.Messages.{done_up}
 use Rattle.chip_base.specs.Prescalers.{prescaler_of}
 use Rattle.board_units.specs.Messages.{change_event}
-use Rattle.board_units.specs.PwmState.{PwmState, reset_state}
+use Rattle.board_units.specs.PwmState.{PwmState, pwm_reset}
 
 -- a new control word
 abbrev pub configured : PwmState → ℕ → PwmState
@@ -50,7 +50,7 @@ shown s now = record { unit = counted (record s { mask = mask_of s }); up = None
 
 -- a Reset makes all outputs low
 abbrev pub reset : PwmState → ℕ → Given PwmState
-reset s now = record { unit = reset_state; up = Some done_up; event = change_event now 5 s.mask 0 }
+reset s now = record { unit = pwm_reset; up = Some done_up; event = change_event now 5 s.mask 0 }
 
 -- one cycle: the message first, then the outputs
 unfoldable pub pwm_cycle : PwmState → ℕ → Option Down → Given PwmState

@@ -15,5 +15,5 @@ pub record PwmState : Type 0 where
   pub mask : ℕ
 
 -- the reset state: disabled, with the settings of words of zero
-abbrev pub reset_state : PwmState
-reset_state = record { enabled = false; prescaler = 2; duties = 0 ∷ 0 ∷ 0 ∷ 0 ∷ []; count = 0; step = 0; mask = 0 }
+abbrev pub pwm_reset : PwmState
+pwm_reset = record { enabled = false; prescaler = 2; duties = 0 ∷ 0 ∷ 0 ∷ 0 ∷ []; count = 0; step = 0; mask = 0 }

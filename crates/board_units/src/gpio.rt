@@ -69,14 +69,14 @@ fn change_inputs(steps: &[PinStep], now: Cycle, inputs: u32) -> (usize, u32)
 
 impl Gpio {
     ghost use Rattle.board_units.specs.GpioScript.{ChangesNow, FollowsScript};
-    ghost use Rattle.board_units.specs.GpioState.{power_on};
+    ghost use Rattle.board_units.specs.GpioState.{gpio_start};
     ghost use Rattle.board_units.specs.GpioCycle.{moved, input_up, gpio_cycle};
     ghost use Rattle.board_units.specs.Laws.{AnswersResets, TellsChange};
 
     /// The unit at power-on: all pins are low, and the script's pin changes are still to come.
     #[tactic(auto, using(crate::proofs::Script::follows_script))]
     pub fn new(pins: Pins) -> Gpio
-        ensures state { result ≡ power_on pins }
+        ensures state { result ≡ gpio_start pins }
         ensures script { FollowsScript pins }
     {
         Gpio {

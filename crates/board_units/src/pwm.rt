@@ -34,14 +34,14 @@ impl Model for Pwm {
 }
 
 impl Pwm {
-    ghost use Rattle.board_units.specs.PwmState.{reset_state};
+    ghost use Rattle.board_units.specs.PwmState.{pwm_reset};
     ghost use Rattle.board_units.specs.PwmCycle.{configured, with_duty, set_in, is_high, mask_of, counted, shown, reset, pwm_cycle};
     ghost use Rattle.board_units.specs.PwmWave.{MakesWave, RestsDisabled, StartsAtOnce};
     ghost use Rattle.board_units.specs.Laws.{AnswersResets, TellsChange};
 
     /// The unit at power-on: disabled, with the prescaler 2 and duties of 0.
     pub fn new() -> Pwm
-        ensures { result ≡ reset_state }
+        ensures { result ≡ pwm_reset }
     {
         Pwm {
             enabled: false,

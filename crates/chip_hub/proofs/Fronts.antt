@@ -8,7 +8,7 @@ use Rattle.chip_base.specs.declared.chip_unit.ChipUnit.{ChipUnit}
 use Rattle.chip_base.specs.declared.chip_unit.ChipUnit.TheVariants.{Uart0, Uart1, Spi, Gpio, Pwm, Slink, Wdt}
 use Rattle.chip_base.specs.Messages.{at_data, done_in, entry_in, reset_in}
 use Rattle.soc_bus.specs.Map.{admitted}
-use Rattle.soc_bus.specs.Memory.{Memories, store_of}
+use Rattle.soc_bus.specs.Memory.{MemoryState, store_of}
 use Rattle.soc_bus.specs.Rotation.{granted}
 use Rattle.soc_bus.specs.declared.access.BusFault.{BusFault}
 use Rattle.soc_bus.specs.declared.access.Region.{Region}
@@ -27,7 +27,7 @@ use Rattle.unit_fronts.proofs.Counts.{loads, spends}
 use Rattle.chip_base.specs.UnitTable.{unit_numbered}
 use Rattle.chip_hub.specs.Access.{accessed, accessed_by, in_clint, in_device, in_dma, in_mailbox, in_memory, in_numbered, in_region, in_sysinfo, memory_stored}
 use Rattle.chip_hub.specs.Cycle.{heard, heard_by_gpio, heard_by_pwm, hub_cycle, served, served0, served1, served2, served_to, timed, turn0, turn1, wants_of}
-use Rattle.chip_hub.specs.State.{Fronts, State, Step}
+use Rattle.chip_hub.specs.State.{Fronts, HubState, HubStep}
 use Rattle.chip_hub.specs.Units.{at_gpio, at_pwm, at_uart, fronts_after, messages_in, only_to, silent, unit_down}
 
 -- a relation between the fronts before an access, the fronts after it and the messages that go down holds of every access
@@ -35,44 +35,44 @@ pub record HoldsOfAccesses (Q : Fronts → Fronts → List (Option Down) → Typ
   -- where no front is reached
   pub quiet : (f : Fronts) → Q f f silent
   -- at the registers of a unit
-  pub device : (s : State) (r : Request) (unit : ChipUnit) (reg : ℕ) → Q s.fronts (in_device s r unit reg).hub.fronts (in_device s r unit reg).downs
+  pub device : (s : HubState) (r : Request) (unit : ChipUnit) (reg : ℕ) → Q s.fronts (in_device s r unit reg).hub.fronts (in_device s r unit reg).downs
 
-memory_store : (Q : Fronts → Fronts → List (Option Down) → Type 0) → HoldsOfAccesses Q → (s : State) (m : Result Memories BusFault)
+memory_store : (Q : Fronts → Fronts → List (Option Down) → Type 0) → HoldsOfAccesses Q → (s : HubState) (m : Result MemoryState BusFault)
     → Q s.fronts (memory_stored s m).hub.fronts (memory_stored s m).downs
 memory_store Q h s (Ok m) = h.quiet s.fronts
 memory_store Q h s (Err fault) = h.quiet s.fronts
 
-memory_access : (Q : Fronts → Fronts → List (Option Down) → Type 0) → HoldsOfAccesses Q → (s : State) (r : Request) (store : Option ℕ)
+memory_access : (Q : Fronts → Fronts → List (Option Down) → Type 0) → HoldsOfAccesses Q → (s : HubState) (r : Request) (store : Option ℕ)
     → Q s.fronts (in_memory s r store).hub.fronts (in_memory s r store).downs
 memory_access Q h s r None = h.quiet s.fronts
 memory_access Q h s r (Some value) = memory_store Q h s (store_of s.memory r.addr r.width value)
 
-clint_access : (Q : Fronts → Fronts → List (Option Down) → Type 0) → HoldsOfAccesses Q → (s : State) (r : Request) (store : Option ℕ)
+clint_access : (Q : Fronts → Fronts → List (Option Down) → Type 0) → HoldsOfAccesses Q → (s : HubState) (r : Request) (store : Option ℕ)
     → Q s.fronts (in_clint s r store).hub.fronts (in_clint s r store).downs
 clint_access Q h s r None = h.quiet s.fronts
 clint_access Q h s r (Some value) = h.quiet s.fronts
 
-mailbox_access : (Q : Fronts → Fronts → List (Option Down) → Type 0) → HoldsOfAccesses Q → (s : State) (r : Request) (store : Option ℕ)
+mailbox_access : (Q : Fronts → Fronts → List (Option Down) → Type 0) → HoldsOfAccesses Q → (s : HubState) (r : Request) (store : Option ℕ)
     → Q s.fronts (in_mailbox s r store).hub.fronts (in_mailbox s r store).downs
 mailbox_access Q h s r None = h.quiet s.fronts
 mailbox_access Q h s r (Some value) = h.quiet s.fronts
 
-sysinfo_access : (Q : Fronts → Fronts → List (Option Down) → Type 0) → HoldsOfAccesses Q → (s : State) (r : Request) (store : Option ℕ)
+sysinfo_access : (Q : Fronts → Fronts → List (Option Down) → Type 0) → HoldsOfAccesses Q → (s : HubState) (r : Request) (store : Option ℕ)
     → Q s.fronts (in_sysinfo s r store).hub.fronts (in_sysinfo s r store).downs
 sysinfo_access Q h s r None = h.quiet s.fronts
 sysinfo_access Q h s r (Some value) = h.quiet s.fronts
 
-dma_access : (Q : Fronts → Fronts → List (Option Down) → Type 0) → HoldsOfAccesses Q → (s : State) (r : Request) (store : Option ℕ)
+dma_access : (Q : Fronts → Fronts → List (Option Down) → Type 0) → HoldsOfAccesses Q → (s : HubState) (r : Request) (store : Option ℕ)
     → Q s.fronts (in_dma s r store).hub.fronts (in_dma s r store).downs
 dma_access Q h s r None = h.quiet s.fronts
 dma_access Q h s r (Some value) = h.quiet s.fronts
 
-numbered_access : (Q : Fronts → Fronts → List (Option Down) → Type 0) → HoldsOfAccesses Q → (s : State) (r : Request) (unit : Option ChipUnit) (reg : ℕ)
+numbered_access : (Q : Fronts → Fronts → List (Option Down) → Type 0) → HoldsOfAccesses Q → (s : HubState) (r : Request) (unit : Option ChipUnit) (reg : ℕ)
     → Q s.fronts (in_numbered s r unit reg).hub.fronts (in_numbered s r unit reg).downs
 numbered_access Q h s r None reg = h.quiet s.fronts
 numbered_access Q h s r (Some unit) reg = h.device s r unit reg
 
-region_access : (Q : Fronts → Fronts → List (Option Down) → Type 0) → HoldsOfAccesses Q → (s : State) (r : Request) (region : Region)
+region_access : (Q : Fronts → Fronts → List (Option Down) → Type 0) → HoldsOfAccesses Q → (s : HubState) (r : Request) (region : Region)
     → Q s.fronts (in_region s r region).hub.fronts (in_region s r region).downs
 region_access Q h s r Imem = memory_access Q h s r r.store
 region_access Q h s r Dmem = memory_access Q h s r r.store
@@ -82,44 +82,44 @@ region_access Q h s r Sysinfo = sysinfo_access Q h s r r.store
 region_access Q h s r Dma = dma_access Q h s r r.store
 region_access Q h s r (Device number reg) = numbered_access Q h s r (unit_numbered number) reg
 
-found_access : (Q : Fronts → Fronts → List (Option Down) → Type 0) → HoldsOfAccesses Q → (s : State) (r : Request) (found : Result Region BusFault)
+found_access : (Q : Fronts → Fronts → List (Option Down) → Type 0) → HoldsOfAccesses Q → (s : HubState) (r : Request) (found : Result Region BusFault)
     → Q s.fronts (accessed_by s r found).hub.fronts (accessed_by s r found).downs
 found_access Q h s r (Ok region) = region_access Q h s r region
 found_access Q h s r (Err fault) = h.quiet s.fronts
 
-every_access : (Q : Fronts → Fronts → List (Option Down) → Type 0) → HoldsOfAccesses Q → (s : State) (r : Request)
+every_access : (Q : Fronts → Fronts → List (Option Down) → Type 0) → HoldsOfAccesses Q → (s : HubState) (r : Request)
     → Q s.fronts (accessed s r).hub.fronts (accessed s r).downs
 unfolding accessed
 every_access Q h s r = found_access Q h s r (admitted r _ _)
 
-core0_access : (Q : Fronts → Fronts → List (Option Down) → Type 0) → HoldsOfAccesses Q → (s : State) (wanted : Option Request)
+core0_access : (Q : Fronts → Fronts → List (Option Down) → Type 0) → HoldsOfAccesses Q → (s : HubState) (wanted : Option Request)
     → Q s.fronts (served0 s wanted).hub.fronts (served0 s wanted).downs
 core0_access Q h s None = h.quiet s.fronts
 core0_access Q h s (Some request) = every_access Q h s request
 
-core1_access : (Q : Fronts → Fronts → List (Option Down) → Type 0) → HoldsOfAccesses Q → (s : State) (wanted : Option Request)
+core1_access : (Q : Fronts → Fronts → List (Option Down) → Type 0) → HoldsOfAccesses Q → (s : HubState) (wanted : Option Request)
     → Q s.fronts (served1 s wanted).hub.fronts (served1 s wanted).downs
 core1_access Q h s None = h.quiet s.fronts
 core1_access Q h s (Some request) = every_access Q h s request
 
-dma_served : (Q : Fronts → Fronts → List (Option Down) → Type 0) → HoldsOfAccesses Q → (s : State) (wanted : Option Request)
+dma_served : (Q : Fronts → Fronts → List (Option Down) → Type 0) → HoldsOfAccesses Q → (s : HubState) (wanted : Option Request)
     → Q s.fronts (served2 s wanted).hub.fronts (served2 s wanted).downs
 dma_served Q h s None = h.quiet s.fronts
 dma_served Q h s (Some request) = every_access Q h s request
 
-grant : (Q : Fronts → Fronts → List (Option Down) → Type 0) → HoldsOfAccesses Q → (s : State) (master : Option Master)
+grant : (Q : Fronts → Fronts → List (Option Down) → Type 0) → HoldsOfAccesses Q → (s : HubState) (master : Option Master)
     → Q s.fronts (served_to s master).hub.fronts (served_to s master).downs
 grant Q h s None = h.quiet s.fronts
 grant Q h s (Some Core0) = core0_access Q h s (wanted_in s.core0.phase)
 grant Q h s (Some Core1) = core1_access Q h s (wanted_in s.core1.phase)
 grant Q h s (Some Copier) = dma_served Q h s (dma_wanted s.dma)
 
-served_fronts : (Q : Fronts → Fronts → List (Option Down) → Type 0) → HoldsOfAccesses Q → (s : State) (wants : ℕ)
+served_fronts : (Q : Fronts → Fronts → List (Option Down) → Type 0) → HoldsOfAccesses Q → (s : HubState) (wants : ℕ)
     → Q s.fronts (served s wants).hub.fronts (served s wants).downs
 served_fronts Q h s wants = grant Q h _ (granted s.arbiter wants)
 
 -- after the arrivals, a cycle makes one access at most
-pub cycle_fronts : (Q : Fronts → Fronts → List (Option Down) → Type 0) → HoldsOfAccesses Q → (s : State) (now : ℕ) (ups : List (Option Up))
+pub cycle_fronts : (Q : Fronts → Fronts → List (Option Down) → Type 0) → HoldsOfAccesses Q → (s : HubState) (now : ℕ) (ups : List (Option Up))
     → Q (heard s ups).fronts (hub_cycle s now ups).hub.fronts (hub_cycle s now ups).downs
 unfolding hub_cycle
 cycle_fronts Q h s now ups = served_fronts Q h (turn1 (turn0 (timed (heard s ups)) now) now) (wants_of (turn1 (turn0 (timed (heard s ups)) now) now))
@@ -141,14 +141,14 @@ one_to Slink (Some m) = omega arith
 one_to Wdt None = omega arith
 one_to Wdt (Some m) = omega arith
 
-one_message : (s : State) (wants : ℕ) → messages_in (served s wants).downs ≤ 1
+one_message : (s : HubState) (wants : ℕ) → messages_in (served s wants).downs ≤ 1
 one_message = served_fronts (λ old new downs. messages_in downs ≤ 1) (record {
   quiet = λ f. omega arith;
   device = λ s r unit reg. one_to unit (unit_down s.fronts r unit reg);
 })
 
 -- what a grant sends down is one message at most
-pub one_sent : (s : State) (wants : ℕ) (step : Step) → step ≡ served s wants → messages_in step.downs ≤ 1
+pub one_sent : (s : HubState) (wants : ℕ) (step : HubStep) → step ≡ served s wants → messages_in step.downs ≤ 1
 one_sent s wants step e = subst (λ x. messages_in x.downs ≤ 1) (sym e) (one_message s wants)
 
 -- what an access does to a front, and the message that it sends down
@@ -194,7 +194,7 @@ uart0_reached f r Slink reg = serves_nothing at_data f.uart0
 uart0_reached f r Wdt reg = serves_nothing at_data f.uart0
 
 -- what a cycle does to the front of uart0, after the arrivals
-pub serves_uart0 : (s : State) (now : ℕ) (ups : List (Option Up))
+pub serves_uart0 : (s : HubState) (now : ℕ) (ups : List (Option Up))
     → ServesPort at_data (heard s ups).fronts.uart0 (get_or (hub_cycle s now ups).downs 0 None) (hub_cycle s now ups).hub.fronts.uart0
 serves_uart0 = cycle_fronts (λ old new downs. ServesPort at_data old.uart0 (get_or downs 0 None) new.uart0) (record {
   quiet = λ f. serves_nothing at_data f.uart0;
@@ -212,7 +212,7 @@ uart1_reached f r Slink reg = serves_nothing at_data f.uart1
 uart1_reached f r Wdt reg = serves_nothing at_data f.uart1
 
 -- what a cycle does to the front of uart1, after the arrivals
-pub serves_uart1 : (s : State) (now : ℕ) (ups : List (Option Up))
+pub serves_uart1 : (s : HubState) (now : ℕ) (ups : List (Option Up))
     → ServesPort at_data (heard s ups).fronts.uart1 (get_or (hub_cycle s now ups).downs 1 None) (hub_cycle s now ups).hub.fronts.uart1
 serves_uart1 = cycle_fronts (λ old new downs. ServesPort at_data old.uart1 (get_or downs 1 None) new.uart1) (record {
   quiet = λ f. serves_nothing at_data f.uart1;
@@ -266,7 +266,7 @@ gpio_reached f r Slink reg = no_answers f.gpio.owed
 gpio_reached f r Wdt reg = no_answers f.gpio.owed
 
 -- what a cycle does to the fronts of gpio and pwm, after the arrivals
-pub serves_gpio : (s : State) (now : ℕ) (ups : List (Option Up))
+pub serves_gpio : (s : HubState) (now : ℕ) (ups : List (Option Up))
     → ServesAnswers (heard s ups).fronts.gpio.owed (get_or (hub_cycle s now ups).downs 3 None) (hub_cycle s now ups).hub.fronts.gpio.owed
 serves_gpio = cycle_fronts (λ old new downs. ServesAnswers old.gpio.owed (get_or downs 3 None) new.gpio.owed) (record {
   quiet = λ f. no_answers f.gpio.owed;
@@ -283,7 +283,7 @@ pwm_reached f r Pwm reg = pwm_access f.pwm r reg r.store
 pwm_reached f r Slink reg = no_answers f.pwm.owed
 pwm_reached f r Wdt reg = no_answers f.pwm.owed
 
-pub serves_pwm : (s : State) (now : ℕ) (ups : List (Option Up))
+pub serves_pwm : (s : HubState) (now : ℕ) (ups : List (Option Up))
     → ServesAnswers (heard s ups).fronts.pwm.owed (get_or (hub_cycle s now ups).downs 4 None) (hub_cycle s now ups).hub.fronts.pwm.owed
 serves_pwm = cycle_fronts (λ old new downs. ServesAnswers old.pwm.owed (get_or downs 4 None) new.pwm.owed) (record {
   quiet = λ f. no_answers f.pwm.owed;
@@ -323,7 +323,7 @@ gpio_answer_owed p up false e = rw e refl
 pub gpio_hears : (p : GpioRegisters) (up : Option Up) → HearsAnswers p.owed up (heard_by_gpio p up).owed
 gpio_hears p None = record { still = λ z. z; answers = λ z. omega arith }
 gpio_hears p (Some up) = owed_by p.owed (gpio_arrived p up).owed up (eqb p.owed 0) up.done refl refl
-    (λ o. rw o (gpio_open p up _ refl)) (λ o d. rw (o, d) (gpio_answered p up _ refl)) (λ o d. rw (o, d) refl)
+    (λ o. rw o (gpio_open p up _ refl)) (λ o d. rw (o, d) (gpio_answer_owed p up _ refl)) (λ o d. rw (o, d) refl)
 
 pub pwm_hears : (p : PwmRegisters) (up : Option Up) → HearsAnswers p.owed up (heard_by_pwm p up).owed
 pwm_hears p None = record { still = λ z. z; answers = λ z. omega arith }

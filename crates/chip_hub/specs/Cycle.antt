@@ -5,7 +5,7 @@ use Rattle.chip_base.specs.declared.message.Up.{Up}
 use Rattle.chip_base.specs.UnitTable.{link_place}
 use Rattle.chip_base.specs.declared.chip_unit.ChipUnit.{ChipUnit}
 use Rattle.chip_base.specs.declared.chip_unit.ChipUnit.TheVariants.{Uart0, Uart1, Gpio, Pwm}
-use Rattle.core_pair.specs.Access.{granted_with}
+use Rattle.core_pair.specs.Access.{core_granted}
 use Rattle.core_pair.specs.Clint.{clint_ticked}
 use Rattle.core_pair.specs.Core.{CoreState, started, wanted_in}
 use Rattle.core_pair.specs.Mailbox.{mailbox_word}
@@ -22,7 +22,7 @@ use Rattle.unit_fronts.specs.SerialRegisters.{SerialRegisters, serial_arrived}
 use Rattle.unit_fronts.specs.PwmFront.{PwmRegisters, pwm_arrived}
 use Rattle.chip_hub.specs.Access.{Accessed, accessed}
 use Rattle.chip_hub.specs.Lines.{mip_of}
-use Rattle.chip_hub.specs.State.{State, Step}
+use Rattle.chip_hub.specs.State.{HubState, HubStep}
 use Rattle.chip_hub.specs.Units.{silent}
 
 -- 1. what arrives from the units reaches their fronts
@@ -43,7 +43,7 @@ heard_by_pwm front (Some up) = pwm_arrived front up
 abbrev pub arrival_of : ChipUnit → List (Option Up) → Option Up
 arrival_of unit ups = get_or ups (link_place unit) None
 
-abbrev pub heard : State → List (Option Up) → State
+abbrev pub heard : HubState → List (Option Up) → HubState
 heard s ups = record s {
   fronts = record {
     uart0 = heard_by s.fronts.uart0 (arrival_of Uart0 ups);
@@ -55,68 +55,68 @@ heard s ups = record s {
 
 -- 2. mtime adds one
 
-abbrev pub timed : State → State
+abbrev pub timed : HubState → HubState
 timed s = record s { clint = clint_ticked s.clint }
 
 -- 3. core 0's turn
 
-abbrev pub turn0 : State → ℕ → State
+abbrev pub turn0 : HubState → ℕ → HubState
 turn0 s now = record s { core0 = (turned s.core0 now (mip_of s 0) s.memory).after }
 
 -- 4. core 1's turn: while it is parked its software interrupt starts it, with pc and stack pointer from the mailbox
 
-abbrev pub started_by : State → Bool → CoreState
+abbrev pub started_by : HubState → Bool → CoreState
 started_by s wanted = if wanted then started s.core1 (mailbox_word s.mailbox 0) (mailbox_word s.mailbox 4) else s.core1
 
-abbrev pub turned1 : State → ℕ → Phase → CoreState
+abbrev pub turned1 : HubState → ℕ → Phase → CoreState
 turned1 s now Parked = started_by s (s.clint.msip1 == 1)
 turned1 s now _ = (turned s.core1 now (mip_of s 1) s.memory).after
 
-abbrev pub turn1 : State → ℕ → State
+abbrev pub turn1 : HubState → ℕ → HubState
 turn1 s now = record s { core1 = turned1 s now s.core1.phase }
 
 -- 5. who wants the bus: bit 0 is core 0, bit 1 core 1, bit 2 the DMA
 
-abbrev pub wants_of : State → ℕ
+abbrev pub wants_of : HubState → ℕ
 wants_of s = bit_if 0 (is_some (wanted_in s.core0.phase)) + bit_if 1 (is_some (wanted_in s.core1.phase)) + bit_if 2 (is_some (dma_wanted s.dma))
 
 -- 6. one of them is granted its access, and is given the answer
 
-abbrev pub quiet : State → Step
-quiet s = record { hub = s; downs = silent }
+abbrev pub nobody_served : HubState → HubStep
+nobody_served s = record { hub = s; downs = silent }
 
-abbrev pub answered0 : Accessed → Step
-answered0 a = record { hub = record a.hub { core0 = granted_with a.hub.core0 a.answer }; downs = a.downs }
+abbrev pub answered0 : Accessed → HubStep
+answered0 a = record { hub = record a.hub { core0 = core_granted a.hub.core0 a.answer }; downs = a.downs }
 
-abbrev pub answered1 : Accessed → Step
-answered1 a = record { hub = record a.hub { core1 = granted_with a.hub.core1 a.answer }; downs = a.downs }
+abbrev pub answered1 : Accessed → HubStep
+answered1 a = record { hub = record a.hub { core1 = core_granted a.hub.core1 a.answer }; downs = a.downs }
 
-abbrev pub answered2 : Accessed → Step
+abbrev pub answered2 : Accessed → HubStep
 answered2 a = record { hub = record a.hub { dma = dma_granted a.hub.dma a.answer }; downs = a.downs }
 
-abbrev pub served0 : State → Option Request → Step
-served0 s None = quiet s
+abbrev pub served0 : HubState → Option Request → HubStep
+served0 s None = nobody_served s
 served0 s (Some request) = answered0 (accessed s request)
 
-abbrev pub served1 : State → Option Request → Step
-served1 s None = quiet s
+abbrev pub served1 : HubState → Option Request → HubStep
+served1 s None = nobody_served s
 served1 s (Some request) = answered1 (accessed s request)
 
-abbrev pub served2 : State → Option Request → Step
-served2 s None = quiet s
+abbrev pub served2 : HubState → Option Request → HubStep
+served2 s None = nobody_served s
 served2 s (Some request) = answered2 (accessed s request)
 
-abbrev pub served_to : State → Option Master → Step
-served_to s None = quiet s
+abbrev pub served_to : HubState → Option Master → HubStep
+served_to s None = nobody_served s
 served_to s (Some Core0) = served0 s (wanted_in s.core0.phase)
 served_to s (Some Core1) = served1 s (wanted_in s.core1.phase)
 served_to s (Some Dma) = served2 s (dma_wanted s.dma)
 
-abbrev pub served : State → ℕ → Step
+abbrev pub served : HubState → ℕ → HubStep
 served s wants = served_to (record s { arbiter = after_grant s.arbiter wants }) (granted s.arbiter wants)
 
 -- one cycle, in these six steps
-unfoldable pub hub_cycle : State → ℕ → List (Option Up) → Step
+unfoldable pub hub_cycle : HubState → ℕ → List (Option Up) → HubStep
 hub_cycle s now ups =
     let with_arrivals = heard s ups in
     let at_time = timed with_arrivals in

@@ -10,11 +10,11 @@ use Rattle.dma_unit.specs.DmaRegisters.{dma_reset}
 use Rattle.unit_fronts.specs.GpioFront.{gpio_front_reset}
 use Rattle.unit_fronts.specs.SerialRegisters.{serial_front_reset}
 use Rattle.unit_fronts.specs.PwmFront.{pwm_front_reset}
-use Rattle.chip_hub.specs.State.{State}
+use Rattle.chip_hub.specs.State.{HubState}
 
 -- the hub at power-on, with these bytes from address 0 of IMEM
-unfoldable pub start : Values → List ℕ → State
-start v image = record {
+unfoldable pub hub_start : Values → List ℕ → HubState
+hub_start v image = record {
   clock = v.clock;
   core0 = reset_core 0;
   core1 = reset_core 1;

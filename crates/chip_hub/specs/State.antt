@@ -4,8 +4,8 @@ use Rattle.chip_base.specs.declared.message.Down.{Down}
 use Rattle.core_pair.specs.Clint.{ClintState}
 use Rattle.core_pair.specs.Core.{CoreState}
 use Rattle.core_pair.specs.Mailbox.{MailboxState}
-use Rattle.soc_bus.specs.Memory.{Memories}
-use Rattle.soc_bus.specs.Rotation.{Turns}
+use Rattle.soc_bus.specs.Memory.{MemoryState}
+use Rattle.soc_bus.specs.Rotation.{ArbiterState}
 use Rattle.dma_unit.specs.DmaRegisters.{DmaRegisters}
 use Rattle.unit_fronts.specs.GpioFront.{GpioRegisters}
 use Rattle.unit_fronts.specs.SerialRegisters.{SerialRegisters}
@@ -18,19 +18,19 @@ pub record Fronts : Type 0 where
   pub gpio : GpioRegisters
   pub pwm : PwmRegisters
 
-pub record State : Type 0 where
+pub record HubState : Type 0 where
   -- the clock in hertz, as the settings give it
   pub clock : ℕ
   pub core0 : CoreState
   pub core1 : CoreState
-  pub memory : Memories
-  pub arbiter : Turns
+  pub memory : MemoryState
+  pub arbiter : ArbiterState
   pub dma : DmaRegisters
   pub clint : ClintState
   pub mailbox : MailboxState
   pub fronts : Fronts
 
 -- what a cycle gives: the state after it, and for each of the seven units the message that goes down to it
-pub record Step : Type 0 where
-  pub hub : State
+pub record HubStep : Type 0 where
+  pub hub : HubState
   pub downs : List (Option Down)

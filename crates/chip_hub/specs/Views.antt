@@ -9,22 +9,22 @@ use Rattle.soc_bus.specs.Memory.{load_of}
 use Rattle.soc_bus.specs.declared.access.BusFault.{BusFault}
 use Rattle.soc_bus.specs.declared.access.Width.TheVariants.{Word}
 use Rattle.chip_hub.specs.Lines.{mip_of}
-use Rattle.chip_hub.specs.State.{State}
+use Rattle.chip_hub.specs.State.{HubState}
 
 abbrev pub loaded_word : Result ℕ BusFault → Option ℕ
 loaded_word (Ok word) = Some word
 loaded_word (Err fault) = None
 
 -- the word at an address, if it is that of a word of the memories
-abbrev pub word_at : State → ℕ → Option ℕ
+abbrev pub word_at : HubState → ℕ → Option ℕ
 word_at s address = loaded_word (load_of s.memory address Word)
 
 -- a hart as a report shows it
-abbrev pub hart_view : State → ℕ → HartView
+abbrev pub hart_view : HubState → ℕ → HartView
 hart_view s hart = if hart == 0 then view_of s.core0 else view_of s.core1
 
 -- a CSR of a hart, mip as the lines stand
-abbrev pub csr_at : State → ℕ → ℕ → Option ℕ
+abbrev pub csr_at : HubState → ℕ → ℕ → Option ℕ
 csr_at s hart number = if hart == 0 then read_at s.core0.csrs number (mip_of s 0) else read_at s.core1.csrs number (mip_of s 1)
 
 -- core 0 began with the raw bytes of the file

@@ -24,9 +24,9 @@ pub struct Hub {
 }
 
 impl Model for Hub {
-    ghost use Rattle.chip_hub.specs.State.{State};
+    ghost use Rattle.chip_hub.specs.State.{HubState};
 
-    ghost Value = { State };
+    ghost Value = { HubState };
 
     ghost view = { λ h. record {
       clock = h.clock;

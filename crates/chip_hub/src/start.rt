@@ -2,7 +2,7 @@
 ghost use Rattle.std.specs.Prelude.{◌≡◌, ◌≤◌, length, nat_le, IfOk};
 ghost use Rattle.chip_base.specs.Settings.{values_of};
 ghost use Rattle.chip_base.specs.declared.boot.Boot.TheVariants.{Raw};
-ghost use Rattle.chip_hub.specs.Start.{start};
+ghost use Rattle.chip_hub.specs.Start.{hub_start};
 
 use crate::hub::Hub;
 use chip_base::{Boot, NoMemory, Setup};
@@ -27,11 +27,11 @@ pub fn fits(boot: Boot, image: &[u8], room: u32) -> bool
 impl Hub {
     /// The hub at power-on, with the bytes of a file in IMEM from address 0 on. The boot mode must be `Raw`, and the file must fit
     /// IMEM, as `fits` tells. Where memory is wanting for IMEM or DMEM there is no hub, and nothing stays taken.
-    #[tactic(auto, unfolding(crate::specs::Start::start))]
+    #[tactic(auto, unfolding(crate::specs::Start::hub_start))]
     pub fn new(alloc: Global, setup: &Setup, boot: Boot, image: &[u8]) -> Result<Hub, NoMemory>
         requires raw { boot ≡ Raw }
         requires fits { length image.now ≤ setup.now.imem }
-        ensures { IfOk result (λ hub. hub ≡ start (values_of setup.now) image.now) }
+        ensures { IfOk result (λ hub. hub ≡ hub_start (values_of setup.now) image.now) }
     {
         let mut memory = Memory::new(alloc, setup.imem, setup.dmem)?;
         memory.fill(image);

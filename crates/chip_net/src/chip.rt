@@ -5,7 +5,7 @@ ghost use Rattle.chip_base.specs.Settings.{values_of};
 ghost use Rattle.chip_base.specs.declared.boot.Boot.TheVariants.{Raw};
 ghost use Rattle.chip_hub.specs.Views.{boot_view, csr_at, hart_view, word_at};
 ghost use Rattle.soc_bus.specs.Memory.{IsSize, held_by, place_of};
-ghost use Rattle.chip_whole.specs.Chip.{Board, State, after, events_of, start, tick};
+ghost use Rattle.chip_whole.specs.Chip.{Board, ChipState, after, events_of, start, tick};
 ghost use Rattle.chip_whole.specs.Standing.{ChipStands};
 
 use crate::units::Units;
@@ -83,8 +83,8 @@ impl Chip {
     /// One cycle: the hub and each unit from the state before it. Gives what happened at the chip's edge.
     fn step(&mut self) -> [Option<Event>; 4]
         requires { ⟦<Chip as Standing>⟧.now self.old + 4096 < 2 ^ 64 }
-        ensures state { (board : Board) (s : State) → ⟦<Chip as Standing>⟧.stands board self.old s → ⟦<Chip as Standing>⟧.stands board self.new (tick board s) }
-        ensures told { (board : Board) (s : State) → ⟦<Chip as Standing>⟧.stands board self.old s → (tick board s).events ≡ s.events ++ events_of result }
+        ensures state { (board : Board) (s : ChipState) → ⟦<Chip as Standing>⟧.stands board self.old s → ⟦<Chip as Standing>⟧.stands board self.new (tick board s) }
+        ensures told { (board : Board) (s : ChipState) → ⟦<Chip as Standing>⟧.stands board self.old s → (tick board s).events ≡ s.events ++ events_of result }
         ensures now { ⟦<Chip as Standing>⟧.now self.new ≡ ⟦<Chip as Standing>⟧.now self.old + 1 }
         ensures kept { self.new.events ≡ self.old.events }
     {
@@ -110,9 +110,9 @@ impl Chip {
         requires cycles { cycles ≤ 4096 }
         requires time { ⟦<Chip as Standing>⟧.now self.old + cycles + 4096 < 2 ^ 64 }
         ensures rounds { steps.new ≡ steps.old }
-        ensures state { OnOk result ((board : Board) (s : State) → ⟦<Chip as Standing>⟧.stands board self.old s
+        ensures state { OnOk result ((board : Board) (s : ChipState) → ⟦<Chip as Standing>⟧.stands board self.old s
             → ⟦<Chip as Standing>⟧.stands board self.new (after board s cycles)) }
-        ensures events { OnOk result ((board : Board) (s : State) → ⟦<Chip as Standing>⟧.stands board self.old s
+        ensures events { OnOk result ((board : Board) (s : ChipState) → ⟦<Chip as Standing>⟧.stands board self.old s
             → (after board s cycles).events ≡ s.events ++ ⟦<Chip as Standing>⟧.told self.new) }
         ensures now { OnOk result (⟦<Chip as Standing>⟧.now self.new ≡ ⟦<Chip as Standing>⟧.now self.old + cycles) }
     {
@@ -134,8 +134,8 @@ impl Chip {
     /// The word at an address. None exactly where the address isn't that of a word of IMEM or DMEM.
     #[tactic(auto, unfolding(chip_whole::specs::Standing::ChipStands))]
     pub fn word(&self, addr: u32) -> Option<u32>
-        ensures value { (board : Board) (s : State) → ⟦<Chip as Standing>⟧.stands board self.now s → result ≡ word_at s.hub addr }
-        ensures bytes { (board : Board) (s : State) → ⟦<Chip as Standing>⟧.stands board self.now s → IfSome result (λ w. IfSome (place_of s.hub.memory addr 4)
+        ensures value { (board : Board) (s : ChipState) → ⟦<Chip as Standing>⟧.stands board self.now s → result ≡ word_at s.hub addr }
+        ensures bytes { (board : Board) (s : ChipState) → ⟦<Chip as Standing>⟧.stands board self.now s → IfSome result (λ w. IfSome (place_of s.hub.memory addr 4)
             (λ p. to_le_bytes w32 w ≡ slice_range (held_by s.hub.memory p.0) p.1 (p.1 + 4))) }
     {
         self.hub.word(addr)
@@ -144,7 +144,7 @@ impl Chip {
     /// The number of bytes of IMEM.
     #[tactic(auto, unfolding(chip_whole::specs::Standing::ChipStands))]
     pub fn imem_size(&self) -> u32
-        ensures value { (board : Board) (s : State) → ⟦<Chip as Standing>⟧.stands board self.now s → result ≡ length s.hub.memory.imem }
+        ensures value { (board : Board) (s : ChipState) → ⟦<Chip as Standing>⟧.stands board self.now s → result ≡ length s.hub.memory.imem }
         ensures valid { IsSize result }
     {
         self.hub.imem_size()
@@ -153,7 +153,7 @@ impl Chip {
     /// The number of bytes of DMEM.
     #[tactic(auto, unfolding(chip_whole::specs::Standing::ChipStands))]
     pub fn dmem_size(&self) -> u32
-        ensures value { (board : Board) (s : State) → ⟦<Chip as Standing>⟧.stands board self.now s → result ≡ length s.hub.memory.dmem }
+        ensures value { (board : Board) (s : ChipState) → ⟦<Chip as Standing>⟧.stands board self.now s → result ≡ length s.hub.memory.dmem }
         ensures valid { IsSize result }
     {
         self.hub.dmem_size()
@@ -163,7 +163,7 @@ impl Chip {
     #[tactic(auto, unfolding(chip_whole::specs::Standing::ChipStands))]
     pub fn hart(&self, hart: u8) -> HartView
         requires { hart < 2 }
-        ensures { (board : Board) (s : State) → ⟦<Chip as Standing>⟧.stands board self.now s → result ≡ hart_view s.hub hart }
+        ensures { (board : Board) (s : ChipState) → ⟦<Chip as Standing>⟧.stands board self.now s → result ≡ hart_view s.hub hart }
     {
         self.hub.hart(hart)
     }
@@ -172,7 +172,7 @@ impl Chip {
     #[tactic(auto, unfolding(chip_whole::specs::Standing::ChipStands))]
     pub fn csr(&self, hart: u8, addr: u16) -> Option<u32>
         requires { hart < 2 }
-        ensures { (board : Board) (s : State) → ⟦<Chip as Standing>⟧.stands board self.now s → result ≡ csr_at s.hub hart addr }
+        ensures { (board : Board) (s : ChipState) → ⟦<Chip as Standing>⟧.stands board self.now s → result ≡ csr_at s.hub hart addr }
     {
         self.hub.csr(hart, addr)
     }
@@ -188,7 +188,7 @@ impl Chip {
     #[tactic(auto, unfolding(chip_whole::specs::Standing::ChipStands))]
     pub fn now(&self) -> Cycle
         ensures time { result ≡ ⟦<Chip as Standing>⟧.now self.now }
-        ensures state { (board : Board) (s : State) → ⟦<Chip as Standing>⟧.stands board self.now s → result ≡ s.cycle }
+        ensures state { (board : Board) (s : ChipState) → ⟦<Chip as Standing>⟧.stands board self.now s → result ≡ s.cycle }
     {
         self.units.now()
     }

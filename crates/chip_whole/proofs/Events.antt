@@ -10,8 +10,8 @@ use Rattle.chip_base.specs.declared.event.Event.{Event}
 use Rattle.chip_base.specs.declared.message.Down.{Down}
 use Rattle.chip_base.specs.declared.message.Down.TheVariants.{Reset, Set}
 use Rattle.chip_base.specs.Given.{Given}
-use Rattle.uart_lane.specs.Cycle.{appended, begun, ended, may_begin, received, sent, set_in, unit_cycle}
-use Rattle.uart_lane.specs.State.{State as Uart}
+use Rattle.uart_lane.specs.Cycle.{appended, begun, ended, may_begin, received, sent, set_in, uart_cycle}
+use Rattle.uart_lane.specs.State.{UartState}
 use Rattle.chip_whole.specs.Chip.{events_of}
 use Rattle.chip_whole.specs.Order.{AreOrdered, AreOrderedBefore, ArePast, Precedes}
 
@@ -114,31 +114,31 @@ are_past now events h = record { order = h.order; past = all_past events h.befor
 -- what a cycle of a UART tells
 
 -- its number stays, and its event is of its number and of this cycle
-pub record TellsOfItself (s : Uart) (now : ℕ) (g : Given Uart) : Type 0 where
+pub record TellsOfItself (s : UartState) (now : ℕ) (g : Given UartState) : Type 0 where
   pub number : g.unit.number ≡ s.number
   pub event : ToldAt s.number now g.event
 
-ended_tells : (s : Uart) (now : ℕ) (fifo : List ℕ) → TellsOfItself s now (ended s now fifo)
+ended_tells : (s : UartState) (now : ℕ) (fifo : List ℕ) → TellsOfItself s now (ended s now fifo)
 ended_tells s now [] = record { number = refl; event = tt }
 ended_tells s now (b ∷ rest) = record { number = refl; event = (refl, refl) }
 
-sent_tells_by : (s : Uart) (now : ℕ) (a b : Bool) → eqb s.left 0 ≡ a → eqb s.left 1 ≡ b → TellsOfItself s now (sent s now)
+sent_tells_by : (s : UartState) (now : ℕ) (a b : Bool) → eqb s.left 0 ≡ a → eqb s.left 1 ≡ b → TellsOfItself s now (sent s now)
 sent_tells_by s now true b p q = rw p record { number = refl; event = tt }
 sent_tells_by s now false true p q = rw (p, q) (ended_tells s now s.fifo)
 sent_tells_by s now false false p q = rw (p, q) record { number = refl; event = tt }
 
-sent_tells : (s : Uart) (now : ℕ) → TellsOfItself s now (sent s now)
+sent_tells : (s : UartState) (now : ℕ) → TellsOfItself s now (sent s now)
 sent_tells s now = sent_tells_by s now _ _ refl refl
 
-begun_number_by : (s : Uart) (b : Bool) → may_begin s ≡ b → (begun s).number ≡ s.number
+begun_number_by : (s : UartState) (b : Bool) → may_begin s ≡ b → (begun s).number ≡ s.number
 begun_number_by s true h = rw h refl
 begun_number_by s false h = rw h refl
 
-begun_number : (s : Uart) → (begun s).number ≡ s.number
+begun_number : (s : UartState) → (begun s).number ≡ s.number
 begun_number s = begun_number_by s _ refl
 
 -- a change before the transmitter that keeps the number
-same_number : (s t : Uart) (now : ℕ) → t.number ≡ s.number → TellsOfItself s now (received (sent (begun t) now) now)
+same_number : (s t : UartState) (now : ℕ) → t.number ≡ s.number → TellsOfItself s now (received (sent (begun t) now) now)
 same_number s t now e =
     let same : (begun t).number ≡ s.number = begun_number t ∙ e in
     let told : TellsOfItself (begun t) now (sent (begun t) now) = sent_tells (begun t) now in
@@ -147,17 +147,17 @@ same_number s t now e =
       event = subst (λ number. ToldAt number now (sent (begun t) now).event) same told.event;
     }
 
-appended_number : (s : Uart) (byte : ℕ) (b : Bool) → ltb (length s.fifo) 16 ≡ b → (appended s byte).number ≡ s.number
+appended_number : (s : UartState) (byte : ℕ) (b : Bool) → ltb (length s.fifo) 16 ≡ b → (appended s byte).number ≡ s.number
 appended_number s byte true e = rw e refl
 appended_number s byte false e = rw e refl
 
-set_number_by : (s : Uart) (reg word : ℕ) (a b : Bool) → eqb reg 0 ≡ a → eqb reg 4 ≡ b → (set_in s reg word).number ≡ s.number
+set_number_by : (s : UartState) (reg word : ℕ) (a b : Bool) → eqb reg 0 ≡ a → eqb reg 4 ≡ b → (set_in s reg word).number ≡ s.number
 set_number_by s reg word true b p q = rw p refl
 set_number_by s reg word false true p q = rw (p, q) (appended_number s _ _ refl)
 set_number_by s reg word false false p q = rw (p, q) refl
 
-pub uart_tells : (s : Uart) (now : ℕ) (down : Option Down) → TellsOfItself s now (unit_cycle s now down)
-unfolding unit_cycle
+pub uart_tells : (s : UartState) (now : ℕ) (down : Option Down) → TellsOfItself s now (uart_cycle s now down)
+unfolding uart_cycle
 uart_tells s now None = same_number s s now refl
 uart_tells s now (Some Reset) = record { number = refl; event = tt }
 uart_tells s now (Some (Set reg word)) = same_number s (set_in s reg word) now (set_number_by s reg word _ _ refl refl)

@@ -11,16 +11,16 @@ use Rattle.chip_base.specs.declared.script.Script.{Script}
 use Rattle.chip_base.specs.declared.setup.Setup.{Setup}
 use Rattle.board_units.specs.GpioCycle.{gpio_cycle}
 use Rattle.board_units.specs.PwmCycle.{pwm_cycle}
-use Rattle.chip_hub.specs.Start.{start as hub_start}
+use Rattle.chip_hub.specs.Start.{hub_start}
 use Rattle.chip_hub.proofs.Fronts.{gpio_hears, pwm_hears, serves_gpio, serves_pwm, serves_uart0, serves_uart1}
 use Rattle.soc_words.specs.Link.{link_first}
 use Rattle.uart_lane.specs.Counts.{bytes_out}
-use Rattle.uart_lane.specs.Cycle.{unit_cycle}
-use Rattle.uart_lane.specs.State.{State as Uart}
+use Rattle.uart_lane.specs.Cycle.{uart_cycle}
+use Rattle.uart_lane.specs.State.{UartState}
 use Rattle.uart_lane.proofs.Counts.{keeps_count}
 use Rattle.uart_lane.proofs.Order.{keeps_order}
 use Rattle.unit_fronts.specs.SerialRegisters.{SerialRegisters}
-use Rattle.chip_whole.specs.Chip.{Board, State, after, arriving, delay_of, start, tick, told_by_units}
+use Rattle.chip_whole.specs.Chip.{Board, ChipState, after, arriving, delay_of, start, tick, told_by_units}
 use Rattle.chip_whole.specs.Credits.{CreditsHold, HasSixteen, LosesNone, ServesUnit, UartLosesNone, count_on, waiting_in}
 use Rattle.chip_whole.specs.Joined.{Joined, event_of}
 use Rattle.chip_whole.specs.Order.{AreOrderedBefore}
@@ -33,11 +33,11 @@ use Rattle.chip_whole.proofs.Sent.{Keeps, keeps, keeps_start, told_each, told_mo
 
 -- credits
 
-credits_tick : (board : Board) (c : State) → CreditsHold c → CreditsHold (tick board c)
+credits_tick : (board : Board) (c : ChipState) → CreditsHold c → CreditsHold (tick board c)
 unfolding tick
 credits_tick board c h = record {
-  uart0 = serves_after at_data waiting_in unit_cycle _ _ c.units.uart0 c.cycle _ (serves_uart0 c.hub c.cycle (arriving c.units)) (λ s. keeps_count s c.cycle) h.uart0;
-  uart1 = serves_after at_data waiting_in unit_cycle _ _ c.units.uart1 c.cycle _ (serves_uart1 c.hub c.cycle (arriving c.units)) (λ s. keeps_count s c.cycle) h.uart1;
+  uart0 = serves_after at_data waiting_in uart_cycle _ _ c.units.uart0 c.cycle _ (serves_uart0 c.hub c.cycle (arriving c.units)) (λ s. keeps_count s c.cycle) h.uart0;
+  uart1 = serves_after at_data waiting_in uart_cycle _ _ c.units.uart1 c.cycle _ (serves_uart1 c.hub c.cycle (arriving c.units)) (λ s. keeps_count s c.cycle) h.uart1;
   gpio = awaits_after gpio_cycle _ _ _ c.units.gpio c.cycle _ (gpio_hears c.hub.fronts.gpio _) (serves_gpio c.hub c.cycle (arriving c.units)) (λ s. gpio_answers s c.cycle) h.gpio;
   pwm = awaits_after pwm_cycle _ _ _ c.units.pwm c.cycle _ (pwm_hears c.hub.fronts.pwm _) (serves_pwm c.hub c.cycle (arriving c.units)) (λ s. pwm_answers s c.cycle) h.pwm;
 }
@@ -64,11 +64,11 @@ start_credits v image script d = record {
   pwm = awaits_start _ _ (delay_fits v 4 d (omega arith));
 }
 
-credits_after : (board : Board) (c : State) (n : ℕ) → CreditsHold c → CreditsHold (after board c n)
+credits_after : (board : Board) (c : ChipState) (n : ℕ) → CreditsHold c → CreditsHold (after board c n)
 credits_after board c n = kept_after board CreditsHold (credits_tick board) c n
 
 -- where the unit has room for the entries that come, none is lost
-uart_loses_none : (p : SerialRegisters) (j : Joined Uart) (now : ℕ) → ServesUnit at_data p waiting_in j → UartLosesNone j.unit now (link_first j.down)
+uart_loses_none : (p : SerialRegisters) (j : Joined UartState) (now : ℕ) → ServesUnit at_data p waiting_in j → UartLosesNone j.unit now (link_first j.down)
 uart_loses_none p j now h r = (keeps_order j.unit now (link_first j.down)).bytes r (by_line j.down h.sixteen)
   where
     by_line : (downs : List (Option Down)) → HasSixteen at_data p downs (length j.unit.fifo) j.up → length j.unit.fifo + entry_in at_data (link_first downs) ≤ 16
@@ -77,7 +77,7 @@ uart_loses_none p j now h r = (keeps_order j.unit now (link_first j.down)).bytes
         let small : entry_in at_data d + count_on (entry_in at_data) downs + length j.unit.fifo + count_on credit_in j.up ≤ 16 = h.room in
         omega (arith, small)
 
-none_lost : (c : State) → CreditsHold c → LosesNone c
+none_lost : (c : ChipState) → CreditsHold c → LosesNone c
 none_lost c h = record {
   uart0 = uart_loses_none c.hub.fronts.uart0 c.units.uart0 c.cycle h.uart0;
   uart1 = uart_loses_none c.hub.fronts.uart1 c.units.uart1 c.cycle h.uart1;
@@ -86,21 +86,21 @@ none_lost c h = record {
 -- events
 
 -- each unit keeps its number
-record NumbersStay (c : State) : Type 0 where
+record NumbersStay (c : ChipState) : Type 0 where
   uart0 : c.units.uart0.unit.number ≡ 1
   uart1 : c.units.uart1.unit.number ≡ 2
 
-uart_number : (j : Joined Uart) (now number : ℕ) → j.unit.number ≡ number → (unit_cycle j.unit now (link_first j.down)).unit.number ≡ number
+uart_number : (j : Joined UartState) (now number : ℕ) → j.unit.number ≡ number → (uart_cycle j.unit now (link_first j.down)).unit.number ≡ number
 uart_number j now number e = (uart_tells j.unit now (link_first j.down)).number ∙ e
 
-uart_event : (j : Joined Uart) (now number : ℕ) → j.unit.number ≡ number → ToldAt number now (event_of unit_cycle j now)
-uart_event j now number e = subst (λ unit. ToldAt unit now (event_of unit_cycle j now)) e (uart_tells j.unit now (link_first j.down)).event
+uart_event : (j : Joined UartState) (now number : ℕ) → j.unit.number ≡ number → ToldAt number now (event_of uart_cycle j now)
+uart_event j now number e = subst (λ unit. ToldAt unit now (event_of uart_cycle j now)) e (uart_tells j.unit now (link_first j.down)).event
 
-numbers_tick : (board : Board) (c : State) → NumbersStay c → NumbersStay (tick board c)
+numbers_tick : (board : Board) (c : ChipState) → NumbersStay c → NumbersStay (tick board c)
 unfolding tick
 numbers_tick board c h = record { uart0 = uart_number c.units.uart0 c.cycle 1 h.uart0; uart1 = uart_number c.units.uart1 c.cycle 2 h.uart1 }
 
-numbers_after : (board : Board) (c : State) (n : ℕ) → NumbersStay c → NumbersStay (after board c n)
+numbers_after : (board : Board) (c : ChipState) (n : ℕ) → NumbersStay c → NumbersStay (after board c n)
 numbers_after board c n = kept_after board NumbersStay (numbers_tick board) c n
 
 start_numbers : (v : Values) (image : List ℕ) (script : Script) → NumbersStay (start v image script)
@@ -112,18 +112,18 @@ abbrev built : List ℕ
 built = 1 ∷ 2 ∷ 4 ∷ 5 ∷ []
 
 -- each unit tells of itself
-units_tell : (board : Board) (c : State) → NumbersStay c → AllTold c.cycle built (told_by_units board c.units c.cycle)
+units_tell : (board : Board) (c : ChipState) → NumbersStay c → AllTold c.cycle built (told_by_units board c.units c.cycle)
 units_tell board c n = (
   uart_event c.units.uart0 c.cycle 1 n.uart0,
   (uart_event c.units.uart1 c.cycle 2 n.uart1, (gpio_tells c.units.gpio.unit c.cycle _, (pwm_tells c.units.pwm.unit c.cycle _, tt))),
 )
 
 -- the units keep their numbers, and the events are in order
-record EventsStand (c : State) : Type 0 where
+record EventsStand (c : ChipState) : Type 0 where
   numbers : NumbersStay c
   events : EndBefore c.cycle 0 c.events
 
-events_tick : (board : Board) (c : State) → EventsStand c → EventsStand (tick board c)
+events_tick : (board : Board) (c : ChipState) → EventsStand c → EventsStand (tick board c)
 unfolding tick
 events_tick board c h = record {
   numbers = numbers_tick board c h.numbers;
@@ -144,28 +144,28 @@ events_ordered board v image script n =
 
 -- bytes
 
-told_by_uart0 : (board : Board) (c : State) → NumbersStay c → told_by 1 (tick board c).events ≡ told_by 1 c.events ++ bytes_out (event_of unit_cycle c.units.uart0 c.cycle)
+told_by_uart0 : (board : Board) (c : ChipState) → NumbersStay c → told_by 1 (tick board c).events ≡ told_by 1 c.events ++ bytes_out (event_of uart_cycle c.units.uart0 c.cycle)
 unfolding tick
 told_by_uart0 board c h =
     told_more 1 c.events _ ∙ ap (λ later. told_by 1 c.events ++ later) (told_each 1 c.cycle built (told_by_units board c.units c.cycle) (units_tell board c h) ∙ append-nil _)
 
-told_by_uart1 : (board : Board) (c : State) → NumbersStay c → told_by 2 (tick board c).events ≡ told_by 2 c.events ++ bytes_out (event_of unit_cycle c.units.uart1 c.cycle)
+told_by_uart1 : (board : Board) (c : ChipState) → NumbersStay c → told_by 2 (tick board c).events ≡ told_by 2 c.events ++ bytes_out (event_of uart_cycle c.units.uart1 c.cycle)
 unfolding tick
 told_by_uart1 board c h =
     told_more 2 c.events _ ∙ ap (λ later. told_by 2 c.events ++ later) (told_each 2 c.cycle built (told_by_units board c.units c.cycle) (units_tell board c h) ∙ append-nil _)
 
 -- what holds of the bytes of a UART after n cycles
-abbrev KeepsBytes : Board → State → ℕ → ℕ → ℕ → Joined Uart → Type 0
+abbrev KeepsBytes : Board → ChipState → ℕ → ℕ → ℕ → Joined UartState → Type 0
 KeepsBytes board c n place unit j = Keeps (bytes_down board c place n) (resets_down board c place n) (told_by unit (after board c n).events) j.unit.fifo j.down
 
-record BytesKept (board : Board) (c : State) (n : ℕ) : Type 0 where
+record BytesKept (board : Board) (c : ChipState) (n : ℕ) : Type 0 where
   uart0 : KeepsBytes board c n 0 1 (after board c n).units.uart0
   uart1 : KeepsBytes board c n 1 2 (after board c n).units.uart1
 
-kept_next : (board : Board) (c : State) (n : ℕ) → CreditsHold (after board c n) → NumbersStay (after board c n) → BytesKept board c n → BytesKept board c (suc n)
+kept_next : (board : Board) (c : ChipState) (n : ℕ) → CreditsHold (after board c n) → NumbersStay (after board c n) → BytesKept board c n → BytesKept board c (suc n)
 unfolding after tick bytes_down resets_down
 kept_next board c n credits numbers h =
-    let s : State = after board c n in
+    let s : ChipState = after board c n in
     let loses : LosesNone s = none_lost s credits in
     record {
       uart0 = subst (λ told. Keeps (bytes_down board c 0 (suc n)) (resets_down board c 0 (suc n)) told (tick board s).units.uart0.unit.fifo (tick board s).units.uart0.down)
@@ -174,7 +174,7 @@ kept_next board c n credits numbers h =
           (sym (told_by_uart1 board s numbers)) (keeps _ _ _ _ _ _ s.units.uart1.down (sent_down s 1) credits.uart1.places.down loses.uart1 h.uart1);
     }
 
-bytes_after : (board : Board) (c : State) (n : ℕ) → CreditsHold c → NumbersStay c → BytesKept board c 0 → BytesKept board c n
+bytes_after : (board : Board) (c : ChipState) (n : ℕ) → CreditsHold c → NumbersStay c → BytesKept board c 0 → BytesKept board c n
 bytes_after board c zero h m k = k
 bytes_after board c (suc n) h m k = kept_next board c n (credits_after board c n h) (numbers_after board c n m) (bytes_after board c n h m k)
 

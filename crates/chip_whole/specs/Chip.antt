@@ -2,9 +2,9 @@
 use Rattle.std.specs.Prelude.{ℕ, zero, suc, Bool, true, false, List, [], ◌∷◌, ◌++◌, Option, None, get_or, if◌then◌else◌, option_to_list}
 use Rattle.std.specs.List.{list_any}
 use Rattle.board_units.specs.GpioCycle.{gpio_cycle}
-use Rattle.board_units.specs.GpioState.{GpioState, power_on as pins_on}
+use Rattle.board_units.specs.GpioState.{GpioState, gpio_start}
 use Rattle.board_units.specs.PwmCycle.{pwm_cycle}
-use Rattle.board_units.specs.PwmState.{PwmState, reset_state as pwm_reset}
+use Rattle.board_units.specs.PwmState.{PwmState, pwm_reset}
 use Rattle.chip_base.specs.declared.event.Event.{Event}
 use Rattle.chip_base.specs.declared.message.Down.{Down}
 use Rattle.chip_base.specs.declared.message.Up.{Up}
@@ -13,11 +13,11 @@ use Rattle.chip_base.specs.declared.script.UartStep.{UartStep}
 use Rattle.chip_base.specs.declared.script.UartStep.TheVariants.{Image}
 use Rattle.chip_base.specs.Settings.{Values}
 use Rattle.chip_hub.specs.Cycle.{hub_cycle}
-use Rattle.chip_hub.specs.Start.{start as hub_start}
-use Rattle.chip_hub.specs.State.{State as Hub, Step}
+use Rattle.chip_hub.specs.Start.{hub_start}
+use Rattle.chip_hub.specs.State.{HubState, HubStep}
 use Rattle.soc_words.specs.Link.{link_first}
-use Rattle.uart_lane.specs.Cycle.{unit_cycle}
-use Rattle.uart_lane.specs.State.{State as Uart, power_on}
+use Rattle.uart_lane.specs.Cycle.{uart_cycle}
+use Rattle.uart_lane.specs.State.{UartState, uart_start}
 use Rattle.chip_whole.specs.Joined.{Joined, event_of, joined_after, joined_start}
 
 -- what stands beside a chip and never changes
@@ -30,8 +30,8 @@ bare = tt
 
 -- the units that are built
 pub record Units : Type 0 where
-  pub uart0 : Joined Uart
-  pub uart1 : Joined Uart
+  pub uart0 : Joined UartState
+  pub uart1 : Joined UartState
   pub gpio : Joined GpioState
   pub pwm : Joined PwmState
 
@@ -42,23 +42,23 @@ arriving u = link_first u.uart0.up ∷ link_first u.uart1.up ∷ None ∷ link_f
 -- the units after a cycle in which this was sent down, by unit
 abbrev pub units_after : Board → Units → ℕ → List (Option Down) → Units
 units_after board u now downs = record {
-  uart0 = joined_after unit_cycle u.uart0 now (get_or downs 0 None);
-  uart1 = joined_after unit_cycle u.uart1 now (get_or downs 1 None);
+  uart0 = joined_after uart_cycle u.uart0 now (get_or downs 0 None);
+  uart1 = joined_after uart_cycle u.uart1 now (get_or downs 1 None);
   gpio = joined_after gpio_cycle u.gpio now (get_or downs 3 None);
   pwm = joined_after pwm_cycle u.pwm now (get_or downs 4 None);
 }
 
 -- what happens at the chip's edge in a cycle, by unit
 abbrev pub told_by_units : Board → Units → ℕ → List (Option Event)
-told_by_units board u now = event_of unit_cycle u.uart0 now ∷ event_of unit_cycle u.uart1 now ∷ event_of gpio_cycle u.gpio now ∷ event_of pwm_cycle u.pwm now ∷ []
+told_by_units board u now = event_of uart_cycle u.uart0 now ∷ event_of uart_cycle u.uart1 now ∷ event_of gpio_cycle u.gpio now ∷ event_of pwm_cycle u.pwm now ∷ []
 
 -- those events that there are
 abbrev pub events_of : List (Option Event) → List Event
 events_of [] = []
 events_of (e ∷ rest) = option_to_list e ++ events_of rest
 
-pub record State : Type 0 where
-  pub hub : Hub
+pub record ChipState : Type 0 where
+  pub hub : HubState
   pub units : Units
   -- the cycle that is next to be stepped
   pub cycle : ℕ
@@ -66,7 +66,7 @@ pub record State : Type 0 where
   pub events : List Event
 
 -- the chip after a cycle, by what the hub gives in it
-abbrev pub stepped : Board → State → Step → State
+abbrev pub stepped : Board → ChipState → HubStep → ChipState
 stepped board c h = record {
   hub = h.hub;
   units = units_after board c.units c.cycle h.downs;
@@ -75,11 +75,11 @@ stepped board c h = record {
 }
 
 -- one cycle: the hub and each unit from the state before it
-unfoldable pub tick : Board → State → State
+unfoldable pub tick : Board → ChipState → ChipState
 tick board c = stepped board c (hub_cycle c.hub c.cycle (arriving c.units))
 
 -- the chip after n cycles
-unfoldable pub after : Board → State → ℕ → State
+unfoldable pub after : Board → ChipState → ℕ → ChipState
 after board c zero = c
 after board c (suc n) = tick board (after board c n)
 
@@ -99,12 +99,12 @@ image_for steps image = if list_any is_image steps then image else []
 -- the units at power-on, with a script to come: nothing is on its way
 abbrev pub units_start : Values → List ℕ → Script → Units
 units_start v image script = record {
-  uart0 = joined_start (power_on 1 script.uart0 (image_for script.uart0 image)) (delay_of v 0);
-  uart1 = joined_start (power_on 2 script.uart1 (image_for script.uart1 image)) (delay_of v 1);
-  gpio = joined_start (pins_on script.pins) (delay_of v 3);
+  uart0 = joined_start (uart_start 1 script.uart0 (image_for script.uart0 image)) (delay_of v 0);
+  uart1 = joined_start (uart_start 2 script.uart1 (image_for script.uart1 image)) (delay_of v 1);
+  gpio = joined_start (gpio_start script.pins) (delay_of v 3);
   pwm = joined_start pwm_reset (delay_of v 4);
 }
 
 -- the chip at power-on, with the bytes of a file from address 0 of IMEM: no event has come
-unfoldable pub start : Values → List ℕ → Script → State
+unfoldable pub start : Values → List ℕ → Script → ChipState
 start v image script = record { hub = hub_start v image; units = units_start v image script; cycle = 0; events = [] }

@@ -6,9 +6,9 @@ use Rattle.chip_base.specs.Messages.{at_data, entry_in, credit_in, reset_in, don
 use Rattle.unit_fronts.specs.SerialRegisters.{SerialRegisters, serial_is_open}
 use Rattle.soc_words.specs.Link.{link_first}
 use Rattle.uart_lane.specs.Counts.{bytes_in, bytes_out}
-use Rattle.uart_lane.specs.Cycle.{unit_cycle}
-use Rattle.uart_lane.specs.State.{State as Uart}
-use Rattle.chip_whole.specs.Chip.{State}
+use Rattle.uart_lane.specs.Cycle.{uart_cycle}
+use Rattle.uart_lane.specs.State.{UartState}
+use Rattle.chip_whole.specs.Chip.{ChipState}
 use Rattle.chip_whole.specs.Joined.{Joined}
 
 -- how often something stands on a line, all places together
@@ -40,7 +40,7 @@ pub record HasSixteen (takes : ℕ → Bool) (front : SerialRegisters) (downs : 
   pub answered : 1 ≤ count_on done_in ups → (entries ≡ 0) × (count_on (entry_in takes) downs ≡ 0)
 
 -- how many bytes wait in a UART
-abbrev pub waiting_in : Uart → ℕ
+abbrev pub waiting_in : UartState → ℕ
 waiting_in s = length s.fifo
 
 -- both lines of a unit have a place
@@ -59,17 +59,17 @@ pub record AwaitsUnit {S : Type 0} (owed : ℕ) (j : Joined S) : Type 0 where
   pub answers : AnswersComing owed j.down j.up
 
 -- so it is for each unit
-pub record CreditsHold (c : State) : Type 0 where
+pub record CreditsHold (c : ChipState) : Type 0 where
   pub uart0 : ServesUnit at_data c.hub.fronts.uart0 waiting_in c.units.uart0
   pub uart1 : ServesUnit at_data c.hub.fronts.uart1 waiting_in c.units.uart1
   pub gpio : AwaitsUnit c.hub.fronts.gpio.owed c.units.gpio
   pub pwm : AwaitsUnit c.hub.fronts.pwm.owed c.units.pwm
 
 -- in a cycle in which no Reset arrives, the bytes that waited and came are those that left and wait, in the same order
-abbrev pub UartLosesNone : Uart → ℕ → Option Down → Type 0
-UartLosesNone s now down = reset_in down ≡ 0 → s.fifo ++ bytes_in down ≡ bytes_out (unit_cycle s now down).event ++ (unit_cycle s now down).unit.fifo
+abbrev pub UartLosesNone : UartState → ℕ → Option Down → Type 0
+UartLosesNone s now down = reset_in down ≡ 0 → s.fifo ++ bytes_in down ≡ bytes_out (uart_cycle s now down).event ++ (uart_cycle s now down).unit.fifo
 
 -- no byte is lost in the cycle that comes next
-pub record LosesNone (c : State) : Type 0 where
+pub record LosesNone (c : ChipState) : Type 0 where
   pub uart0 : UartLosesNone c.units.uart0.unit c.cycle (link_first c.units.uart0.down)
   pub uart1 : UartLosesNone c.units.uart1.unit c.cycle (link_first c.units.uart1.down)

@@ -1,14 +1,14 @@
 -- What the code of a chip keeps, and the chips of the definition that it stands for.
 use Rattle.std.specs.Prelude.{◌≡◌, ℕ}
-use Rattle.chip_hub.specs.State.{State as Hub}
-use Rattle.chip_whole.specs.Chip.{Board, State, Units}
+use Rattle.chip_hub.specs.State.{HubState}
+use Rattle.chip_whole.specs.Chip.{Board, ChipState, Units}
 
 pub record Kept : Type 0 where
-  pub hub : Hub
+  pub hub : HubState
   pub units : Units
   -- the cycle that is next to be stepped
   pub cycle : ℕ
 
 -- all events since power-on aren't kept: what is kept stands for a chip whatever its events
-unfoldable pub ChipStands : Board → Kept → State → Type 0
+unfoldable pub ChipStands : Board → Kept → ChipState → Type 0
 ChipStands board k s = (k.hub ≡ s.hub) × (k.units ≡ s.units) × (k.cycle ≡ s.cycle)

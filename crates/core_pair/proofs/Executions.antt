@@ -2,7 +2,7 @@
 use Rattle.std.proofs.Common.{◌≡◌, ◌==◌, ℕ, ◌-◌, Bool, true, false, Option, Some, None, IfSome, refl, if◌then◌else◌}
 use Rattle.std.specs.Option.{option_and_then}
 use Rattle.csr_file.specs.Traps.{pending_in, wakes_in}
-use Rattle.soc_bus.specs.Memory.{Memories}
+use Rattle.soc_bus.specs.Memory.{MemoryState}
 use Rattle.soc_words.specs.Word.{wrapped_sum}
 use Rattle.rv_decode.specs.Parcels.{expanded}
 use Rattle.rv_decode.specs.Rows.{decoded}
@@ -47,12 +47,12 @@ by_fetch c now mip (Absent address) = tt
 by_fetch c now mip (Parcel parcel) = by_instr c (option_and_then decoded (expanded parcel)) parcel 2 mip
 by_fetch c now mip (Word word) = by_instr c (decoded word) word 4 mip
 
-by_cause : (c : CoreState) (now mip : ℕ) (m : Memories) (o : Option ℕ) → Leaves (hart_after (hart_of c) mip (fetched_at m c.pc)) (wrapped_sum c.pc (length_in (fetched_at m c.pc))) (acted_by c now mip m o)
+by_cause : (c : CoreState) (now mip : ℕ) (m : MemoryState) (o : Option ℕ) → Leaves (hart_after (hart_of c) mip (fetched_at m c.pc)) (wrapped_sum c.pc (length_in (fetched_at m c.pc))) (acted_by c now mip m o)
 unfolding Leaves
 by_cause c now mip m (Some cause) = tt
 by_cause c now mip m None = unfold Leaves in by_fetch c now mip (fetched_at m c.pc)
 
-by_acting : (c : CoreState) (now mip : ℕ) (m : Memories) → Leaves (hart_after (hart_of c) mip (fetched_at m c.pc)) (wrapped_sum c.pc (length_in (fetched_at m c.pc))) (acted c now mip m)
+by_acting : (c : CoreState) (now mip : ℕ) (m : MemoryState) → Leaves (hart_after (hart_of c) mip (fetched_at m c.pc)) (wrapped_sum c.pc (length_in (fetched_at m c.pc))) (acted c now mip m)
 unfolding acted
 by_acting c now mip m = by_cause c now mip m (pending_in c.csrs mip)
 
@@ -65,7 +65,7 @@ idle_leaves : (h : HartState) (next : ℕ) (c : CoreState) → Leaves h next (id
 unfolding Leaves
 idle_leaves h next c = tt
 
-by_phase : (c : CoreState) (now mip : ℕ) (m : Memories) (p : Phase) → Leaves (hart_after (hart_of (ticked c)) mip (fetched_at m c.pc)) (wrapped_sum c.pc (length_in (fetched_at m c.pc))) (turned_in c now mip m p)
+by_phase : (c : CoreState) (now mip : ℕ) (m : MemoryState) (p : Phase) → Leaves (hart_after (hart_of (ticked c)) mip (fetched_at m c.pc)) (wrapped_sum c.pc (length_in (fetched_at m c.pc))) (turned_in c now mip m p)
 by_phase c now mip m (Run left) =
     by_choice _ _ (left == 0) (acted (ticked c) now mip m) (idle (record (ticked c) { phase = Run (left - 1) })) (by_acting (ticked c) now mip m) (idle_leaves _ _ (record (ticked c) { phase = Run (left - 1) }))
 by_phase c now mip m (Want request) = idle_leaves _ _ (ticked c)
@@ -77,6 +77,6 @@ by_phase c now mip m Parked = idle_leaves _ _ c
 by_phase c now mip m Monitor = idle_leaves _ _ c
 
 -- serves the clause `executes` of a turn
-pub executions : (c : CoreState) (now mip : ℕ) (m : Memories) → IfSome (turned c now mip m).issued (λ r. (hart_of (turned c now mip m).after ≡ hart_after (hart_of (ticked c)) mip (fetched_at m c.pc)) × (IfSome (wanted_in (turned c now mip m).after.phase) (λ request. (turned c now mip m).after.awaited.next ≡ wrapped_sum c.pc (length_in (fetched_at m c.pc)))))
+pub executions : (c : CoreState) (now mip : ℕ) (m : MemoryState) → IfSome (turned c now mip m).issued (λ r. (hart_of (turned c now mip m).after ≡ hart_after (hart_of (ticked c)) mip (fetched_at m c.pc)) × (IfSome (wanted_in (turned c now mip m).after.phase) (λ request. (turned c now mip m).after.awaited.next ≡ wrapped_sum c.pc (length_in (fetched_at m c.pc)))))
 unfolding turned Leaves
 executions c now mip m = by_phase c now mip m c.phase

@@ -5,7 +5,7 @@ use Rattle.csr_file.specs.Traps.{trapped}
 use Rattle.soc_bus.specs.declared.access.BusFault.{BusFault}
 use Rattle.core_pair.specs.declared.phase.Phase.{Phase}
 use Rattle.core_pair.specs.declared.phase.Phase.TheVariants.{Run, Want, Sleep, Parked, Monitor}
-use Rattle.core_pair.specs.Access.{extended, granted_in, granted_with}
+use Rattle.core_pair.specs.Access.{extended, granted_in, core_granted}
 use Rattle.core_pair.specs.Core.{CoreState, wanted_in}
 use Rattle.core_pair.specs.GrantLaws.{AccessRetires, AccessTraps}
 use Rattle.core_pair.specs.Hart.{completed, entered, retired, with_register}
@@ -26,8 +26,8 @@ retires_by c answer Parked size = tt
 retires_by c answer Monitor size = tt
 
 -- serves the clause `retires` of a grant
-pub granted_retires : (c : CoreState) (answer : Result ℕ BusFault) → length c.regs ≡ 32 → IfSome (wanted_in c.phase) (λ r. IfOk answer (λ value. AccessRetires c (granted_with c answer) r value))
-unfolding granted_with
+pub granted_retires : (c : CoreState) (answer : Result ℕ BusFault) → length c.regs ≡ 32 → IfSome (wanted_in c.phase) (λ r. IfOk answer (λ value. AccessRetires c (core_granted c answer) r value))
+unfolding core_granted
 granted_retires c answer size = retires_by c answer c.phase size
 
 traps_by : (c : CoreState) (answer : Result ℕ BusFault) (p : Phase) → IfSome (wanted_in p) (λ r. IfErr answer (λ fault. AccessTraps c (granted_in c answer p) r fault))
@@ -40,8 +40,8 @@ traps_by c answer Parked = tt
 traps_by c answer Monitor = tt
 
 -- serves the clause `traps` of a grant
-pub granted_traps : (c : CoreState) (answer : Result ℕ BusFault) → IfSome (wanted_in c.phase) (λ r. IfErr answer (λ fault. AccessTraps c (granted_with c answer) r fault))
-unfolding granted_with
+pub granted_traps : (c : CoreState) (answer : Result ℕ BusFault) → IfSome (wanted_in c.phase) (λ r. IfErr answer (λ fault. AccessTraps c (core_granted c answer) r fault))
+unfolding core_granted
 granted_traps c answer = traps_by c answer c.phase
 
 unasked_by : (c : CoreState) (answer : Result ℕ BusFault) (p : Phase) → wanted_in p ≡ None → granted_in c answer p ≡ c
@@ -52,6 +52,6 @@ unasked_by c answer Parked h = refl
 unasked_by c answer Monitor h = refl
 
 -- serves the clause `unasked` of a grant
-pub granted_unasked : (c : CoreState) (answer : Result ℕ BusFault) → wanted_in c.phase ≡ None → granted_with c answer ≡ c
-unfolding granted_with
+pub granted_unasked : (c : CoreState) (answer : Result ℕ BusFault) → wanted_in c.phase ≡ None → core_granted c answer ≡ c
+unfolding core_granted
 granted_unasked c answer h = unasked_by c answer c.phase h

@@ -4,12 +4,12 @@ use Rattle.std.specs.Prelude.{is_some}
 use Rattle.std.specs.Option.{option_and_then}
 use mathlib.Core.Bool.{not}
 use Rattle.csr_file.proofs.Laws.{write_leaves_mcycle}
-use Rattle.csr_file.specs.State.{State}
+use Rattle.csr_file.specs.State.{CsrsState}
 use Rattle.csr_file.specs.Table.{csr_at, read_at, row_of, writable, written}
 use Rattle.csr_file.specs.Traps.{after_tick, pending_in, returned, trapped, wakes_in}
 use Rattle.csr_file.specs.declared.names.Csr.{Csr}
 use Rattle.csr_file.specs.declared.names.Csr.TheVariants.{Mcycle, Mcycleh}
-use Rattle.soc_bus.specs.Memory.{Memories}
+use Rattle.soc_bus.specs.Memory.{MemoryState}
 use Rattle.soc_words.specs.Word.{wrapped_sum}
 use Rattle.rv_decode.specs.Parcels.{expanded, length_of}
 use Rattle.rv_decode.specs.Rows.{decoded}
@@ -33,19 +33,19 @@ by_length c now mip low address true second = refl
 by_length c now mip low address false None = refl
 by_length c now mip low address false (Some high) = refl
 
-by_half : (c : CoreState) (now mip : ℕ) (m : Memories) (address : ℕ) (o : Option ℕ) → is_some (issued_by c now mip (fetched_by m address o)).issued ≡ is_whole_by m address o
+by_half : (c : CoreState) (now mip : ℕ) (m : MemoryState) (address : ℕ) (o : Option ℕ) → is_some (issued_by c now mip (fetched_by m address o)).issued ≡ is_whole_by m address o
 by_half c now mip m address None = refl
 by_half c now mip m address (Some low) = by_length c now mip low (wrapped_sum address 2) (length_of low == 2) (half_at m (wrapped_sum address 2))
 
-by_whole : (c : CoreState) (now mip : ℕ) (m : Memories) (address : ℕ) → is_some (issued_by c now mip (fetched_at m address)).issued ≡ is_whole m address
+by_whole : (c : CoreState) (now mip : ℕ) (m : MemoryState) (address : ℕ) → is_some (issued_by c now mip (fetched_at m address)).issued ≡ is_whole m address
 unfolding fetched_at
 by_whole c now mip m address = by_half c now mip m address (half_at m address)
 
-by_cause : (c : CoreState) (now mip : ℕ) (m : Memories) (o : Option ℕ) → is_some (acted_by c now mip m o).issued ≡ (not (is_some o) && is_whole m c.pc)
+by_cause : (c : CoreState) (now mip : ℕ) (m : MemoryState) (o : Option ℕ) → is_some (acted_by c now mip m o).issued ≡ (not (is_some o) && is_whole m c.pc)
 by_cause c now mip m (Some cause) = refl
 by_cause c now mip m None = by_whole c now mip m c.pc
 
-by_acting : (c : CoreState) (now mip : ℕ) (m : Memories) → is_some (acted c now mip m).issued ≡ (not (is_some (pending_in c.csrs mip)) && is_whole m c.pc)
+by_acting : (c : CoreState) (now mip : ℕ) (m : MemoryState) → is_some (acted c now mip m).issued ≡ (not (is_some (pending_in c.csrs mip)) && is_whole m c.pc)
 unfolding acted
 by_acting c now mip m = by_cause c now mip m (pending_in c.csrs mip)
 
@@ -58,18 +58,18 @@ by_sleep : (b wakes rest : Bool) (t u v : Turned) → is_some t.issued ≡ rest 
 by_sleep true wakes rest t u v h k l = by_choice wakes rest t u h k
 by_sleep false wakes rest t u v h k l = l
 
-by_phase : (c : CoreState) (now mip : ℕ) (m : Memories) (p : Phase) → is_some (turned_in c now mip m p).issued ≡ (acts_in (ticked c) mip p && (not (is_some (pending_in (ticked c).csrs mip)) && is_whole m c.pc))
+by_phase : (c : CoreState) (now mip : ℕ) (m : MemoryState) (p : Phase) → is_some (turned_in c now mip m p).issued ≡ (acts_in (ticked c) mip p && (not (is_some (pending_in (ticked c).csrs mip)) && is_whole m c.pc))
 by_phase c now mip m (Run left) = by_choice (left == 0) (not (is_some (pending_in (ticked c).csrs mip)) && is_whole m c.pc) (acted (ticked c) now mip m) _ (by_acting (ticked c) now mip m) refl
 by_phase c now mip m (Want request) = refl
 by_phase c now mip m (Sleep left) = by_sleep (left == 0) (wakes_in (ticked c).csrs mip) (not (is_some (pending_in (ticked c).csrs mip)) && is_whole m c.pc) (acted (ticked c) now mip m) (idle (ticked c)) _ (by_acting (ticked c) now mip m) refl refl
 by_phase c now mip m Parked = refl
 by_phase c now mip m Monitor = refl
 
-wakes_ticked : (s : State) (mip : ℕ) → wakes_in (after_tick s) mip ≡ wakes_in s mip
+wakes_ticked : (s : CsrsState) (mip : ℕ) → wakes_in (after_tick s) mip ≡ wakes_in s mip
 unfolding wakes_in
 wakes_ticked s mip = refl
 
-pending_ticked : (s : State) (mip : ℕ) → pending_in (after_tick s) mip ≡ pending_in s mip
+pending_ticked : (s : CsrsState) (mip : ℕ) → pending_in (after_tick s) mip ≡ pending_in s mip
 unfolding pending_in
 pending_ticked s mip = refl
 
@@ -81,7 +81,7 @@ acts_ticked c mip Parked = refl
 acts_ticked c mip Monitor = refl
 
 -- serves the clause `issues` of a turn
-pub issues : (c : CoreState) (now mip : ℕ) (m : Memories) → is_some (turned c now mip m).issued ≡ (acts c mip && (not (is_some (pending_in c.csrs mip)) && is_whole m c.pc))
+pub issues : (c : CoreState) (now mip : ℕ) (m : MemoryState) → is_some (turned c now mip m).issued ≡ (acts c mip && (not (is_some (pending_in c.csrs mip)) && is_whole m c.pc))
 unfolding turned
 issues c now mip m =
     by_phase c now mip m c.phase
@@ -89,19 +89,19 @@ issues c now mip m =
     ∙ ap (λ o. acts c mip && (not (is_some o) && is_whole m c.pc)) (pending_ticked c.csrs mip)
 
 -- a turn without an act
-waits_run : (c : CoreState) (now mip : ℕ) (m : Memories) (left : ℕ) (b : Bool) → b ≡ false → (if b then acted (ticked c) now mip m else idle (record (ticked c) { phase = Run (left - 1) })).after ≡ record c { csrs = after_tick c.csrs; phase = Run (left - 1) }
+waits_run : (c : CoreState) (now mip : ℕ) (m : MemoryState) (left : ℕ) (b : Bool) → b ≡ false → (if b then acted (ticked c) now mip m else idle (record (ticked c) { phase = Run (left - 1) })).after ≡ record c { csrs = after_tick c.csrs; phase = Run (left - 1) }
 waits_run c now mip m left true h = grind arith
 waits_run c now mip m left false h = refl
 
 zero_left : (left : ℕ) → (left == 0) ≡ true → left - 1 ≡ left
 zero_left left h = grind arith
 
-waits_asleep : (c : CoreState) (now mip : ℕ) (m : Memories) (left : ℕ) (b wakes : Bool) → c.phase ≡ Sleep left → (b ≡ true → left - 1 ≡ left) → (b && wakes) ≡ false → (if b then (if wakes then acted (ticked c) now mip m else idle (ticked c)) else idle (record (ticked c) { phase = Sleep (left - 1) })).after ≡ record c { csrs = after_tick c.csrs; phase = Sleep (left - 1) }
+waits_asleep : (c : CoreState) (now mip : ℕ) (m : MemoryState) (left : ℕ) (b wakes : Bool) → c.phase ≡ Sleep left → (b ≡ true → left - 1 ≡ left) → (b && wakes) ≡ false → (if b then (if wakes then acted (ticked c) now mip m else idle (ticked c)) else idle (record (ticked c) { phase = Sleep (left - 1) })).after ≡ record c { csrs = after_tick c.csrs; phase = Sleep (left - 1) }
 waits_asleep c now mip m left true true at zero h = grind arith
 waits_asleep c now mip m left true false at zero h = ap (λ p. record (ticked c) { phase = p }) (at ∙ ap Sleep (sym (zero refl)))
 waits_asleep c now mip m left false wakes at zero h = refl
 
-waits_by : (c : CoreState) (now mip : ℕ) (m : Memories) (p : Phase) → c.phase ≡ p → acts_in (ticked c) mip p ≡ false → counts_turns p ≡ true → (turned_in c now mip m p).after ≡ record c { csrs = after_tick c.csrs; phase = waited p }
+waits_by : (c : CoreState) (now mip : ℕ) (m : MemoryState) (p : Phase) → c.phase ≡ p → acts_in (ticked c) mip p ≡ false → counts_turns p ≡ true → (turned_in c now mip m p).after ≡ record c { csrs = after_tick c.csrs; phase = waited p }
 waits_by c now mip m (Run left) at h counting = waits_run c now mip m left (left == 0) h
 waits_by c now mip m (Want request) at h counting = ap (λ p. record (ticked c) { phase = p }) at
 waits_by c now mip m (Sleep left) at h counting = waits_asleep c now mip m left (left == 0) (wakes_in (ticked c).csrs mip) at (zero_left left) h
@@ -109,7 +109,7 @@ waits_by c now mip m Parked at h counting = grind arith
 waits_by c now mip m Monitor at h counting = grind arith
 
 -- serves the clause `busy` of a turn
-pub waits : (c : CoreState) (now mip : ℕ) (m : Memories) → acts c mip ≡ false → counts_turns c.phase ≡ true → (turned c now mip m).after ≡ record c { csrs = after_tick c.csrs; phase = waited c.phase }
+pub waits : (c : CoreState) (now mip : ℕ) (m : MemoryState) → acts c mip ≡ false → counts_turns c.phase ≡ true → (turned c now mip m).after ≡ record c { csrs = after_tick c.csrs; phase = waited c.phase }
 unfolding turned
 waits c now mip m h counting = waits_by c now mip m c.phase refl (acts_ticked c mip c.phase ∙ h) counting
 
@@ -118,7 +118,7 @@ choice_leaves : (n : ℕ) (b : Bool) (o p : Outcome) → o.hart.csrs.mcycle ≡ 
 choice_leaves n true o p h k = h
 choice_leaves n false o p h k = k
 
-counted_leaves : (s : State) (o : Option Csr) → (counted_by s o).mcycle ≡ s.mcycle
+counted_leaves : (s : CsrsState) (o : Option Csr) → (counted_by s o).mcycle ≡ s.mcycle
 counted_leaves s o = grind arith
 
 trap_leaves : (h : HartState) (word : ℕ) → (illegal h word).hart.csrs.mcycle ≡ h.csrs.mcycle
@@ -164,11 +164,11 @@ fetch_leaves c now mip (Absent address) h = unfold entered trapped in refl
 fetch_leaves c now mip (Parcel parcel) h = instr_leaves c (option_and_then decoded (expanded parcel)) parcel 2 mip h
 fetch_leaves c now mip (Word word) h = instr_leaves c (decoded word) word 4 mip h
 
-cause_leaves : (c : CoreState) (now mip : ℕ) (m : Memories) (o : Option ℕ) → (IfSome (acted_by c now mip m o).issued (λ r. NamesNoMcycle (fetched_at m c.pc))) → (acted_by c now mip m o).after.csrs.mcycle ≡ c.csrs.mcycle
+cause_leaves : (c : CoreState) (now mip : ℕ) (m : MemoryState) (o : Option ℕ) → (IfSome (acted_by c now mip m o).issued (λ r. NamesNoMcycle (fetched_at m c.pc))) → (acted_by c now mip m o).after.csrs.mcycle ≡ c.csrs.mcycle
 cause_leaves c now mip m (Some cause) h = unfold entered trapped in refl
 cause_leaves c now mip m None h = fetch_leaves c now mip (fetched_at m c.pc) h
 
-act_leaves : (c : CoreState) (now mip : ℕ) (m : Memories) → (IfSome (acted c now mip m).issued (λ r. NamesNoMcycle (fetched_at m c.pc))) → (acted c now mip m).after.csrs.mcycle ≡ c.csrs.mcycle
+act_leaves : (c : CoreState) (now mip : ℕ) (m : MemoryState) → (IfSome (acted c now mip m).issued (λ r. NamesNoMcycle (fetched_at m c.pc))) → (acted c now mip m).after.csrs.mcycle ≡ c.csrs.mcycle
 unfolding acted
 act_leaves c now mip m h = cause_leaves c now mip m (pending_in c.csrs mip) h
 
@@ -177,7 +177,7 @@ turn_leaves : (P : Type 0) (n : ℕ) (b : Bool) (t u : Turned) → (IfSome t.iss
 turn_leaves P n true t u h k issued = h issued
 turn_leaves P n false t u h k issued = k issued
 
-counts_by : (c : CoreState) (now mip : ℕ) (m : Memories) (p : Phase) → IfSome (turned_in c now mip m p).issued (λ r. NamesNoMcycle (fetched_at m c.pc)) → (turned_in c now mip m p).after.csrs.mcycle ≡ (if counts_turns p then (c.csrs.mcycle + 1) % 2 ^ 64 else c.csrs.mcycle)
+counts_by : (c : CoreState) (now mip : ℕ) (m : MemoryState) (p : Phase) → IfSome (turned_in c now mip m p).issued (λ r. NamesNoMcycle (fetched_at m c.pc)) → (turned_in c now mip m p).after.csrs.mcycle ≡ (if counts_turns p then (c.csrs.mcycle + 1) % 2 ^ 64 else c.csrs.mcycle)
 counts_by c now mip m (Run left) h =
     turn_leaves (NamesNoMcycle (fetched_at m c.pc)) (after_tick c.csrs).mcycle (left == 0) (acted (ticked c) now mip m) (idle (record (ticked c) { phase = Run (left - 1) })) (act_leaves (ticked c) now mip m) (λ none. refl) h
 counts_by c now mip m (Want request) h = refl
@@ -189,6 +189,6 @@ counts_by c now mip m Parked h = refl
 counts_by c now mip m Monitor h = refl
 
 -- serves the clause `counts` of a turn
-pub counts : (c : CoreState) (now mip : ℕ) (m : Memories) → IfSome (turned c now mip m).issued (λ r. NamesNoMcycle (fetched_at m c.pc)) → (turned c now mip m).after.csrs.mcycle ≡ (if counts_turns c.phase then (c.csrs.mcycle + 1) % 2 ^ 64 else c.csrs.mcycle)
+pub counts : (c : CoreState) (now mip : ℕ) (m : MemoryState) → IfSome (turned c now mip m).issued (λ r. NamesNoMcycle (fetched_at m c.pc)) → (turned c now mip m).after.csrs.mcycle ≡ (if counts_turns c.phase then (c.csrs.mcycle + 1) % 2 ^ 64 else c.csrs.mcycle)
 unfolding turned
 counts c now mip m h = counts_by c now mip m c.phase h

@@ -4,7 +4,7 @@ use Rattle.std.specs.Option.{option_and_then}
 use Rattle.csr_file.specs.Causes.{cause_of}
 use Rattle.csr_file.specs.declared.causes.Exception.TheVariants.{InstructionAccessFault}
 use Rattle.csr_file.specs.Traps.{pending_in, wakes_in}
-use Rattle.soc_bus.specs.Memory.{Memories}
+use Rattle.soc_bus.specs.Memory.{MemoryState}
 use Rattle.soc_bus.specs.declared.access.Request.{Request}
 use Rattle.rv_decode.specs.Rows.{decoded}
 use Rattle.rv_decode.specs.Parcels.{expanded}
@@ -65,33 +65,33 @@ by_fetch c now mip (Absent address) = busy_waits c c (traps (hart_of c) (cause_o
 by_fetch c now mip (Parcel parcel) = by_instr c (option_and_then decoded (expanded parcel)) parcel 2 mip
 by_fetch c now mip (Word word) = by_instr c (decoded word) word 4 mip
 
-by_cause : (c : CoreState) (now mip : ℕ) (m : Memories) (o : Option ℕ) → Waits c (acted_by c now mip m o).after
+by_cause : (c : CoreState) (now mip : ℕ) (m : MemoryState) (o : Option ℕ) → Waits c (acted_by c now mip m o).after
 by_cause c now mip m (Some cause) = busy_waits c c (traps (hart_of c) cause 0)
 by_cause c now mip m None = by_fetch c now mip (fetched_at m c.pc)
 
-by_acting : (c : CoreState) (now mip : ℕ) (m : Memories) → Waits c (acted c now mip m).after
+by_acting : (c : CoreState) (now mip : ℕ) (m : MemoryState) → Waits c (acted c now mip m).after
 unfolding acted
 by_acting c now mip m = by_cause c now mip m (pending_in c.csrs mip)
 
-by_run : (c : CoreState) (now mip : ℕ) (m : Memories) (b : Bool) (left : ℕ) → Waits c (if b then acted c now mip m else idle (record c { phase = Run (left - 1) })).after
+by_run : (c : CoreState) (now mip : ℕ) (m : MemoryState) (b : Bool) (left : ℕ) → Waits c (if b then acted c now mip m else idle (record c { phase = Run (left - 1) })).after
 by_run c now mip m true left = by_acting c now mip m
 by_run c now mip m false left = unfold Waits in tt
 
-by_wake : (c : CoreState) (now mip : ℕ) (m : Memories) (b : Bool) → Waits c (if b then acted c now mip m else idle c).after
+by_wake : (c : CoreState) (now mip : ℕ) (m : MemoryState) (b : Bool) → Waits c (if b then acted c now mip m else idle c).after
 by_wake c now mip m true = by_acting c now mip m
 by_wake c now mip m false = same_waits c c (unfold Same in (refl, refl, refl))
 
-by_sleep : (c : CoreState) (now mip : ℕ) (m : Memories) (b : Bool) (left : ℕ) → Waits c (if b then (if wakes_in c.csrs mip then acted c now mip m else idle c) else idle (record c { phase = Sleep (left - 1) })).after
+by_sleep : (c : CoreState) (now mip : ℕ) (m : MemoryState) (b : Bool) (left : ℕ) → Waits c (if b then (if wakes_in c.csrs mip then acted c now mip m else idle c) else idle (record c { phase = Sleep (left - 1) })).after
 by_sleep c now mip m true left = by_wake c now mip m (wakes_in c.csrs mip)
 by_sleep c now mip m false left = unfold Waits in tt
 
-by_phase : (c : CoreState) (now mip : ℕ) (m : Memories) (p : Phase) → Waits (ticked c) (turned_in c now mip m p).after
+by_phase : (c : CoreState) (now mip : ℕ) (m : MemoryState) (p : Phase) → Waits (ticked c) (turned_in c now mip m p).after
 by_phase c now mip m (Run left) = by_run (ticked c) now mip m (left == 0) left
 by_phase c now mip m (Want request) = same_waits (ticked c) (ticked c) (unfold Same in (refl, refl, refl))
 by_phase c now mip m (Sleep left) = by_sleep (ticked c) now mip m (left == 0) left
 by_phase c now mip m Parked = same_waits (ticked c) c (unfold Same in (refl, refl, refl))
 by_phase c now mip m Monitor = same_waits (ticked c) c (unfold Same in (refl, refl, refl))
 
-pub waiting : (c : CoreState) (now mip : ℕ) (m : Memories) → IfSome (wanted_in (turned c now mip m).after.phase) (λ request. ((turned c now mip m).after.pc ≡ c.pc) × ((turned c now mip m).after.regs ≡ c.regs) × ((turned c now mip m).after.csrs.minstret ≡ c.csrs.minstret))
+pub waiting : (c : CoreState) (now mip : ℕ) (m : MemoryState) → IfSome (wanted_in (turned c now mip m).after.phase) (λ request. ((turned c now mip m).after.pc ≡ c.pc) × ((turned c now mip m).after.regs ≡ c.regs) × ((turned c now mip m).after.csrs.minstret ≡ c.csrs.minstret))
 unfolding turned Waits
 waiting c now mip m = by_phase c now mip m c.phase

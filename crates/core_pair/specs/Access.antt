@@ -45,14 +45,14 @@ refusal is_store Unmapped = if is_store then StoreAccessFault else LoadAccessFau
 refusal is_store Narrow = if is_store then StoreAccessFault else LoadAccessFault
 
 -- the answer to a request: the instruction retires, or the core enters a trap whose value is the address
-abbrev pub answered : CoreState → Request → Result ℕ BusFault → CoreState
-answered c r (Ok value) = busy_after c (retires (hart_of c) c.awaited.rd (extended r.width c.awaited.signed value) c.awaited.next 5)
-answered c r (Err fault) = busy_after c (traps (hart_of c) (cause_of (refusal (is_some r.store) fault)) r.addr)
+abbrev pub core_answered : CoreState → Request → Result ℕ BusFault → CoreState
+core_answered c r (Ok value) = busy_after c (retires (hart_of c) c.awaited.rd (extended r.width c.awaited.signed value) c.awaited.next 5)
+core_answered c r (Err fault) = busy_after c (traps (hart_of c) (cause_of (refusal (is_some r.store) fault)) r.addr)
 
 abbrev pub granted_in : CoreState → Result ℕ BusFault → Phase → CoreState
-granted_in c answer (Want request) = answered c request answer
+granted_in c answer (Want request) = core_answered c request answer
 granted_in c answer _ = c
 
 -- the core after the grant of the request that it waits for
-unfoldable pub granted_with : CoreState → Result ℕ BusFault → CoreState
-granted_with c answer = granted_in c answer c.phase
+unfoldable pub core_granted : CoreState → Result ℕ BusFault → CoreState
+core_granted c answer = granted_in c answer c.phase

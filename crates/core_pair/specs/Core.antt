@@ -1,6 +1,6 @@
 -- A definition: the state of a core, and how it begins.
 use Rattle.std.specs.Prelude.{◌==◌, ℕ, ◌-◌, ◌*◌, ◌/◌, false, List, replicate, Option, Some, None, if◌then◌else◌}
-use Rattle.csr_file.specs.State.{State}
+use Rattle.csr_file.specs.State.{CsrsState}
 use Rattle.csr_file.specs.Table.{fresh}
 use Rattle.chip_base.specs.declared.hart.HartView.{HartView}
 use Rattle.chip_base.specs.declared.hart.PhaseWord.{PhaseWord}
@@ -15,7 +15,7 @@ use Rattle.core_pair.specs.declared.phase.Awaited.{Awaited}
 pub record CoreState : Type 0 where
   pub regs : List ℕ
   pub pc : ℕ
-  pub csrs : State
+  pub csrs : CsrsState
   pub phase : Phase
   pub awaited : Awaited
 

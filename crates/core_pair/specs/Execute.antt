@@ -10,7 +10,7 @@ use Rattle.rv_decode.specs.declared.instr.Op.TheVariants.{Addi, Slti, Sltiu, Xor
 use Rattle.rv_exec.specs.Alu.{alu_of, is_alu_immediate, is_branch, taken_at}
 use Rattle.rv_exec.specs.Cost.{cost_of}
 use Rattle.csr_file.specs.Causes.{cause_of}
-use Rattle.csr_file.specs.State.{State}
+use Rattle.csr_file.specs.State.{CsrsState}
 use Rattle.csr_file.specs.Table.{csr_at, read_at, written, writable}
 use Rattle.csr_file.specs.Traps.{after_retire, returned}
 use Rattle.csr_file.specs.declared.causes.Exception.TheVariants.{IllegalInstruction, Breakpoint, EnvironmentCall}
@@ -72,13 +72,13 @@ csr_writes i Csrrci = not (i.imm == 0)
 csr_writes i _ = true
 
 -- an instruction that wrote minstret or minstreth isn't counted
-abbrev pub counted_by : State → Option Csr → State
+abbrev pub counted_by : CsrsState → Option Csr → CsrsState
 counted_by csrs (Some Minstret) = csrs
 counted_by csrs (Some Minstreth) = csrs
 counted_by csrs _ = after_retire csrs
 
 -- the CSRs after an instruction that wrote a number
-abbrev pub counted : State → ℕ → State
+abbrev pub counted : CsrsState → ℕ → CsrsState
 counted csrs number = counted_by csrs (csr_at number)
 
 -- an illegal instruction

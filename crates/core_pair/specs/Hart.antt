@@ -1,13 +1,13 @@
 -- A definition: what software sees of a hart, and how an instruction or a trap leaves it.
 use Rattle.std.specs.Prelude.{◌==◌, ℕ, List, slice_set, if◌then◌else◌}
-use Rattle.csr_file.specs.State.{State}
+use Rattle.csr_file.specs.State.{CsrsState}
 use Rattle.csr_file.specs.Traps.{trapped, target, after_retire}
 
 -- its registers, pc and CSRs, its number among them
 pub record HartState : Type 0 where
   pub regs : List ℕ
   pub pc : ℕ
-  pub csrs : State
+  pub csrs : CsrsState
 
 -- the registers after a write; x0 keeps zero
 abbrev pub with_register : List ℕ → ℕ → ℕ → List ℕ

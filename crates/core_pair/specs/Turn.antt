@@ -5,7 +5,7 @@ use Rattle.chip_base.specs.declared.hart.IssueRecord.{IssueRecord}
 use Rattle.csr_file.specs.Causes.{cause_of}
 use Rattle.csr_file.specs.declared.causes.Exception.TheVariants.{InstructionAccessFault}
 use Rattle.csr_file.specs.Traps.{after_tick, pending_in, wakes_in}
-use Rattle.soc_bus.specs.Memory.{Memories}
+use Rattle.soc_bus.specs.Memory.{MemoryState}
 use Rattle.rv_decode.specs.declared.instr.Instr.{Instr}
 use Rattle.rv_decode.specs.Rows.{decoded}
 use Rattle.rv_decode.specs.Parcels.{expanded}
@@ -37,12 +37,12 @@ issued_by c now mip (Parcel parcel) = issued_from c now mip (option_and_then dec
 issued_by c now mip (Word word) = issued_from c now mip (decoded word) word 4
 
 -- the core takes an interrupt, or else fetches
-abbrev pub acted_by : CoreState → ℕ → ℕ → Memories → Option ℕ → Turned
+abbrev pub acted_by : CoreState → ℕ → ℕ → MemoryState → Option ℕ → Turned
 acted_by c now mip m (Some cause) = record { after = busy_after c (traps (hart_of c) cause 0); issued = None }
 acted_by c now mip m None = issued_by c now mip (fetched_at m c.pc)
 
 -- the core acts
-unfoldable pub acted : CoreState → ℕ → ℕ → Memories → Turned
+unfoldable pub acted : CoreState → ℕ → ℕ → MemoryState → Turned
 acted c now mip m = acted_by c now mip m (pending_in c.csrs mip)
 
 -- nothing is issued
@@ -54,17 +54,17 @@ abbrev pub ticked : CoreState → CoreState
 ticked c = record c { csrs = after_tick c.csrs }
 
 -- the turn of a core that has so many cycles left before it acts
-abbrev pub running : CoreState → ℕ → ℕ → Memories → ℕ → Turned
+abbrev pub running : CoreState → ℕ → ℕ → MemoryState → ℕ → Turned
 running c now mip m left = if left == 0 then acted c now mip m else idle (record c { phase = Run (left - 1) })
 
 -- the turn of a core that sleeps: after so many cycles it acts where an interrupt is pending, whether it is taken or not
-abbrev pub sleeping : CoreState → ℕ → ℕ → Memories → ℕ → Turned
+abbrev pub sleeping : CoreState → ℕ → ℕ → MemoryState → ℕ → Turned
 sleeping c now mip m left =
     if left == 0 then (if wakes_in c.csrs mip then acted c now mip m else idle c)
     else idle (record c { phase = Sleep (left - 1) })
 
 -- the turn by the phase; it counts in mcycle but where the core is parked or the monitor stands in its place
-abbrev pub turned_in : CoreState → ℕ → ℕ → Memories → Phase → Turned
+abbrev pub turned_in : CoreState → ℕ → ℕ → MemoryState → Phase → Turned
 turned_in c now mip m (Run left) = running (ticked c) now mip m left
 turned_in c now mip m (Want request) = idle (ticked c)
 turned_in c now mip m (Sleep left) = sleeping (ticked c) now mip m left
@@ -72,5 +72,5 @@ turned_in c now mip m Parked = idle c
 turned_in c now mip m Monitor = idle c
 
 -- the core's turn in the cycle `now`, where `mip` is what the interrupt lines give
-unfoldable pub turned : CoreState → ℕ → ℕ → Memories → Turned
+unfoldable pub turned : CoreState → ℕ → ℕ → MemoryState → Turned
 turned c now mip m = turned_in c now mip m c.phase

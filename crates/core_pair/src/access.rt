@@ -1,7 +1,7 @@
 //! Loads and stores: the request at issue, and the grant.
 ghost use Rattle.std.specs.Prelude.{◌≡◌, ℕ, ◌%◌, ◌^◌, ◌<◌, IfErr, IfOk, IfSome, None, if◌then◌else◌};
 ghost use Rattle.soc_bus.specs.declared.access.Width.TheVariants.{Byte, Half};
-ghost use Rattle.core_pair.specs.Access.{extended, granted_with, load_awaited, load_request, refusal, store_awaited, store_request};
+ghost use Rattle.core_pair.specs.Access.{extended, core_granted, load_awaited, load_request, refusal, store_awaited, store_request};
 ghost use Rattle.core_pair.specs.Core.{hart_of, wanted_in};
 ghost use Rattle.core_pair.specs.GrantLaws.{AccessRetires, AccessTraps};
 
@@ -102,9 +102,9 @@ impl Core {
         };
     }
 
-    #[tactic(auto, unfolding(crate::specs::Access::granted_with))]
+    #[tactic(auto, unfolding(crate::specs::Access::core_granted))]
     fn resume(&mut self, answer: Result<u32, BusFault>)
-        ensures { self.new ≡ granted_with self.old answer }
+        ensures { self.new ≡ core_granted self.old answer }
     {
         let Phase::Want(request) = self.phase else {
             return;
@@ -126,7 +126,7 @@ impl Core {
     /// or, where it is refused, the core enters a trap. Without a request nothing changes.
     #[tactic(auto, using(crate::proofs::Grants::granted_retires, crate::proofs::Grants::granted_traps, crate::proofs::Grants::granted_unasked))]
     pub fn granted(&mut self, answer: Result<u32, BusFault>)
-        ensures state { self.new ≡ granted_with self.old answer }
+        ensures state { self.new ≡ core_granted self.old answer }
         ensures retires { IfSome (wanted_in self.old.phase) (λ r. IfOk answer (λ value. AccessRetires self.old self.new r value)) }
         ensures traps { IfSome (wanted_in self.old.phase) (λ r. IfErr answer (λ fault. AccessTraps self.old self.new r fault)) }
         ensures unasked { wanted_in self.old.phase ≡ None → self.new ≡ self.old }

@@ -7,7 +7,7 @@ use Rattle.std.specs.List.{find, list_any}
 use Rattle.std.proofs.lemmas.Nat.Bits.{bit_at_and, bit_at-lt, bit_at-zero, bit_at_above, same_from_bits}
 use Rattle.csr_file.specs.Traps.{order, first_cause, pending_in, enabled}
 use Rattle.csr_file.specs.Causes.{interrupt_cause}
-use Rattle.csr_file.specs.State.{State}
+use Rattle.csr_file.specs.State.{CsrsState}
 use Rattle.std.specs.Option.{option_map}
 use Rattle.std.proofs.lemmas.Nat.{and_assoc}
 
@@ -79,6 +79,6 @@ by_none false ready h = refl
 by_none true ready (inl h) = grind arith
 by_none true ready (inr h) = rw h (ap (λ o. option_map interrupt_cause o) (none_set 0 order))
 
-pub pending_none : (s : State) (mip : ℕ) → bit_and s.mie 0xffff0888 ≡ s.mie → (pending_in s mip ≡ None) ↔ ((enabled s ≡ false) ⊎ (bit_and mip s.mie ≡ 0))
+pub pending_none : (s : CsrsState) (mip : ℕ) → bit_and s.mie 0xffff0888 ≡ s.mie → (pending_in s mip ≡ None) ↔ ((enabled s ≡ false) ⊎ (bit_and mip s.mie ≡ 0))
 unfolding pending_in
 pending_none s mip inside = (none_by (enabled s) (bit_and mip s.mie) (masked mip s.mie inside), by_none (enabled s) (bit_and mip s.mie))

@@ -2,7 +2,7 @@
 use Rattle.std.specs.Prelude.{ℕ}
 
 -- words of 32 bits, but for the counters mcycle and minstret, which have 64, and the number of the hart, 0 or 1
-pub record State : Type 0 where
+pub record CsrsState : Type 0 where
   pub hart : ℕ
   pub mstatus : ℕ
   pub mie : ℕ

@@ -2,7 +2,7 @@
 use Rattle.std.specs.Prelude.{◌≡◌, ◌==◌, ℕ, ◌+◌, ◌*◌, ◌/◌, ◌%◌, ◌^◌, Bool, true, false, List, [], ◌∷◌, Option, Some, None, bit_and, bit_or}
 use Rattle.std.specs.List.{find}
 use Rattle.std.specs.Option.{option_map}
-use Rattle.csr_file.specs.State.{State}
+use Rattle.csr_file.specs.State.{CsrsState}
 use Rattle.csr_file.specs.declared.names.Csr.{Csr}
 use Rattle.csr_file.specs.declared.names.CsrRow.{CsrRow}
 use Rattle.csr_file.specs.declared.names.ResetValue.{ResetValue}
@@ -55,7 +55,7 @@ abbrev pub at_reset : ℕ → ℕ → Csr → ℕ
 at_reset hart mip c = reset_word hart mip (row_of c).reset
 
 -- the word that a CSR holds, where `mip` is what the lines give: one that no write changes holds what it holds at reset
-abbrev pub word_of : State → ℕ → Csr → ℕ
+abbrev pub word_of : CsrsState → ℕ → Csr → ℕ
 word_of s mip Mstatus = s.mstatus
 word_of s mip Misa = at_reset s.hart mip Misa
 word_of s mip Mie = s.mie
@@ -77,7 +77,7 @@ word_of s mip Mhartid = at_reset s.hart mip Mhartid
 word_of s mip Mconfigptr = at_reset s.hart mip Mconfigptr
 
 -- the state with another word in a CSR; one that never changes stays
-abbrev pub with_word : State → Csr → ℕ → State
+abbrev pub with_word : CsrsState → Csr → ℕ → CsrsState
 with_word s Mstatus word = record s { mstatus = word }
 with_word s Mie word = record s { mie = word }
 with_word s Mtvec word = record s { mtvec = word }
@@ -112,7 +112,7 @@ takes Ignored = true
 takes ReadOnly = false
 
 -- the state at reset
-abbrev pub fresh : ℕ → State
+abbrev pub fresh : ℕ → CsrsState
 fresh hart = record {
   hart = hart;
   mstatus = at_reset hart 0 Mstatus;
@@ -127,15 +127,15 @@ fresh hart = record {
 }
 
 -- what a read of a number gives: None where no CSR has it
-unfoldable pub read_at : State → ℕ → ℕ → Option ℕ
+unfoldable pub read_at : CsrsState → ℕ → ℕ → Option ℕ
 read_at s number mip = option_map (word_of s mip) (csr_at number)
 
-abbrev pub written_in : State → Option Csr → ℕ → State
+abbrev pub written_in : CsrsState → Option Csr → ℕ → CsrsState
 written_in s None value = s
 written_in s (Some c) value = with_word s c (kept (row_of c).rule (word_of s 0 c) value)
 
 -- the state after a write to a number
-unfoldable pub written : State → ℕ → ℕ → State
+unfoldable pub written : CsrsState → ℕ → ℕ → CsrsState
 written s number value = written_in s (csr_at number) value
 
 abbrev pub takes_in : Option Csr → Bool

@@ -34,11 +34,11 @@ pub struct Csrs {
 
 impl Model for Csrs {
     ghost use Rattle.std.specs.Prelude.{◌≡◌, ◌<◌};
-    ghost use Rattle.csr_file.specs.State.{State};
+    ghost use Rattle.csr_file.specs.State.{CsrsState};
     ghost use Rattle.csr_file.specs.Table.{IsKeptBy};
     ghost use Rattle.csr_file.specs.declared.names.Csr.TheVariants.{Mstatus, Mie, Mtvec, Mepc};
 
-    ghost Value = { State };
+    ghost Value = { CsrsState };
 
     ghost view = { λ s. record { hart = s.hart; mstatus = s.mstatus; mie = s.mie; mtvec = s.mtvec; mscratch = s.mscratch; mepc = s.mepc; mcause = s.mcause; mtval = s.mtval; mcycle = s.mcycle; minstret = s.minstret } };
 

@@ -5,7 +5,7 @@ use Rattle.std.specs.Option.{MatchOption}
 use Rattle.std.proofs.lemmas.Bool.Decides.{nat_tests}
 use Rattle.soc_bus.specs.Access.{width_bytes}
 use Rattle.soc_bus.specs.Map.{Agrees, Register, device_of, is_memory, region_of, registers, word_in}
-use Rattle.soc_bus.specs.Memory.{IsSize, Memories, place_of}
+use Rattle.soc_bus.specs.Memory.{IsSize, MemoryState, place_of}
 use Rattle.soc_bus.proofs.Bytes.{has_bytes}
 use Rattle.std.proofs.lemmas.Bool.{cases_lt}
 use Rattle.soc_bus.specs.declared.access.Region.{Region}
@@ -45,7 +45,7 @@ from_dmem Half a aligned above = omega arith
 from_dmem Word a aligned above = omega arith
 
 -- what lies at an address agrees with the place of an access there
-region_agrees : (m : Memories) (width : Width) (a : ℕ) → IsSize (length m.imem) → IsSize (length m.dmem)
+region_agrees : (m : MemoryState) (width : Width) (a : ℕ) → IsSize (length m.imem) → IsSize (length m.dmem)
     → a % width_bytes width ≡ 0 → (a < length m.imem) ⊎ (length m.imem ≤ a)
     → (a < 2 ^ 31) ⊎ (2 ^ 31 ≤ a) → (a - 2 ^ 31 < length m.dmem) ⊎ (length m.dmem ≤ a - 2 ^ 31)
     → IfSome (region_of (length m.imem) (length m.dmem) a)
@@ -78,7 +78,7 @@ region_agrees m width a si sd aligned (inr past) (inr high) (inr over) =
     rw (t1, t2, t3, t4) (device_device a)
 
 -- the region of an aligned access agrees with its place
-pub some_agrees : (m : Memories) (r : Request) (imem dmem : ℕ) (region : Region) → IsSize imem → IsSize dmem
+pub some_agrees : (m : MemoryState) (r : Request) (imem dmem : ℕ) (region : Region) → IsSize imem → IsSize dmem
     → r.addr % width_bytes r.width ≡ 0 → region_of imem dmem r.addr ≡ Some region
     → length m.imem ≡ imem → length m.dmem ≡ dmem → Agrees m r region
 some_agrees m r imem dmem region si sd aligned is ei ed =

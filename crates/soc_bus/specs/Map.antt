@@ -6,7 +6,7 @@ use Rattle.chip_base.specs.declared.chip_unit.ChipUnit.{ChipUnit}
 use Rattle.chip_base.specs.declared.chip_unit.HubPart.{HubPart}
 use Rattle.chip_base.specs.declared.chip_unit.HubPart.TheVariants as part
 use Rattle.soc_bus.specs.Access.{width_bytes}
-use Rattle.soc_bus.specs.Memory.{Memories, place_of}
+use Rattle.soc_bus.specs.Memory.{MemoryState, place_of}
 use Rattle.soc_bus.specs.declared.access.BusFault.{BusFault}
 use Rattle.soc_bus.specs.declared.access.BusFault.TheVariants.{Misaligned, Unmapped, Narrow}
 use Rattle.soc_bus.specs.declared.access.Region.{Region}
@@ -71,5 +71,5 @@ admitted r imem dmem =
     if r.addr % width_bytes r.width == 0 then reached r (region_of imem dmem r.addr) else Err Misaligned
 
 -- a region is the memory that has all of a request's bytes, and no memory where none has them all
-abbrev pub Agrees : Memories → Request → Region → Type 0
+abbrev pub Agrees : MemoryState → Request → Region → Type 0
 Agrees m r region = MatchOption (place_of m r.addr (width_bytes r.width)) (is_memory region ≡ false) (λ p. region ≡ p.0)

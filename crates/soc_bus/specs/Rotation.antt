@@ -1,4 +1,4 @@
--- Turns in rotation.
+-- ArbiterState in rotation.
 use Rattle.std.specs.Prelude.{ℕ, ◌/◌, ◌%◌, ◌==◌, Bool, List, [], ◌∷◌, Option}
 use Rattle.std.specs.Option.{unwrap_or}
 use Rattle.std.specs.List.{find}
@@ -6,7 +6,7 @@ use Rattle.soc_bus.specs.declared.arbiter.Master.{Master}
 use Rattle.soc_bus.specs.declared.arbiter.Master.TheVariants.{Core0, Core1, Dma}
 
 -- the master that was served last
-pub record Turns : Type 0 where
+pub record ArbiterState : Type 0 where
   pub last : Master
 
 -- whose turn comes after a master's
@@ -26,14 +26,14 @@ abbrev pub order_after : Master → List Master
 order_after last = next_of last ∷ next_of (next_of last) ∷ last ∷ []
 
 -- who is served
-abbrev pub granted : Turns → ℕ → Option Master
+abbrev pub granted : ArbiterState → ℕ → Option Master
 granted turns wants = find (wants_it wants) (order_after turns.last)
 
 -- the last served master after a grant
-abbrev pub after_grant : Turns → ℕ → Turns
+abbrev pub after_grant : ArbiterState → ℕ → ArbiterState
 after_grant turns wants = record { last = unwrap_or (granted turns wants) turns.last }
 
 -- who is served, one grant after another, where these are the wants of each
-abbrev pub served_in_turn : Turns → List ℕ → List (Option Master)
+abbrev pub served_in_turn : ArbiterState → List ℕ → List (Option Master)
 served_in_turn turns [] = []
 served_in_turn turns (wants ∷ rest) = granted turns wants ∷ served_in_turn (after_grant turns wants) rest

@@ -1,6 +1,6 @@
 //! Who is served where several masters want the bus.
 ghost use Rattle.std.specs.Prelude.{◌≡◌, ◌<◌, ℕ, [], ◌∷◌, Contains, IsNone, IfNone, Some, true};
-ghost use Rattle.soc_bus.specs.Rotation.{Turns, granted, after_grant, next_of, served_in_turn, wants_it};
+ghost use Rattle.soc_bus.specs.Rotation.{ArbiterState, granted, after_grant, next_of, served_in_turn, wants_it};
 ghost use Rattle.soc_bus.specs.declared.arbiter.Master.{Master};
 ghost use Rattle.soc_bus.specs.declared.arbiter.Master.TheVariants.{Core0, Core1, Dma};
 
@@ -45,9 +45,9 @@ pub struct Arbiter {
 }
 
 impl Model for Arbiter {
-    ghost use Rattle.soc_bus.specs.Rotation.{Turns};
+    ghost use Rattle.soc_bus.specs.Rotation.{ArbiterState};
 
-    ghost Value = { Turns };
+    ghost Value = { ArbiterState };
 
     ghost view = { λ a. record { last = a.last } };
 }

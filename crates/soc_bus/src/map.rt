@@ -2,7 +2,7 @@
 ghost use Rattle.std.specs.Prelude.{◌≡◌, ◌<◌, length, IfOk, Some};
 ghost use Rattle.chip_base.specs.UnitTable.{unit_row};
 ghost use Rattle.soc_bus.specs.Map.{Agrees, admitted, device_of, is_narrow, region_of, registers};
-ghost use Rattle.soc_bus.specs.Memory.{IsSize, Memories};
+ghost use Rattle.soc_bus.specs.Memory.{IsSize, MemoryState};
 ghost use Rattle.soc_bus.specs.Parts.{on_page};
 ghost use Rattle.soc_bus.specs.declared.access.Region.TheVariants.{Device};
 
@@ -38,7 +38,7 @@ pub fn admit(r: &Request, imem: u32, dmem: u32) -> Result<Region, BusFault>
     requires imem { IsSize imem }
     requires dmem { IsSize dmem }
     ensures value { result ≡ admitted r.now imem dmem }
-    ensures agrees { (m : Memories) → length m.imem ≡ imem → length m.dmem ≡ dmem → IfOk result (Agrees m r.now) }
+    ensures agrees { (m : MemoryState) → length m.imem ≡ imem → length m.dmem ≡ dmem → IfOk result (Agrees m r.now) }
 {
     if r.addr % r.width.bytes() != 0 {
         return Err(BusFault::Misaligned);

@@ -2,7 +2,7 @@
 ghost use Rattle.std.specs.Prelude.{◌≡◌, ℕ, ◌+◌, ◌-◌, ◌*◌, ◌%◌, ◌^◌, ◌<◌, ◌≤◌, length, drop, ◌++◌, slice_range, IfOk, IfErr, IsErr, OnOk, OnErr, IfSome, ◌⊎◌};
 ghost use Rattle.std.specs.List.{slice_get};
 ghost use Rattle.soc_bus.specs.Access.{width_bytes};
-ghost use Rattle.soc_bus.specs.Memory.{Memories, IsSize, byte_at, held_by, load_of, low_bytes, place_of, store_of, zeros};
+ghost use Rattle.soc_bus.specs.Memory.{MemoryState, IsSize, byte_at, held_by, load_of, low_bytes, place_of, store_of, zeros};
 ghost use Rattle.soc_bus.specs.Parts.{part_of, stored_part};
 ghost use Rattle.soc_bus.specs.Words.{bytes_of};
 ghost use Rattle.std.specs.Vec.{vec_len};
@@ -27,10 +27,10 @@ pub struct Memory {
 impl Model for Memory {
     ghost use Rattle.std.specs.Prelude.{◌*◌};
     ghost use Rattle.std.specs.Vec.{vec_len};
-    ghost use Rattle.soc_bus.specs.Memory.{Memories, IsSize};
+    ghost use Rattle.soc_bus.specs.Memory.{MemoryState, IsSize};
     ghost use Rattle.soc_bus.specs.Words.{bytes_of};
 
-    ghost Value = { Memories };
+    ghost Value = { MemoryState };
 
     ghost view = { λ m. record { imem = bytes_of m.imem.items; dmem = bytes_of m.dmem.items } };
 
@@ -38,7 +38,7 @@ impl Model for Memory {
 }
 
 impl Memory {
-    /// Memories of these sizes in bytes, all zero. The sizes are multiples of 4,096 from 4,096 to 1,048,576.
+    /// MemoryState of these sizes in bytes, all zero. The sizes are multiples of 4,096 from 4,096 to 1,048,576.
     #[tactic(auto, using(crate::proofs::Bytes::length_zeros))]
     pub fn new(alloc: Global, imem: u32, dmem: u32) -> Result<Memory, NoMemory>
         requires imem { IsSize imem }

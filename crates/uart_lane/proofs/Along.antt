@@ -5,7 +5,7 @@ use Rattle.chip_base.specs.declared.message.Down.{Down}
 use Rattle.chip_base.specs.declared.message.Down.TheVariants.{Reset, Set}
 use Rattle.chip_base.specs.Given.{Given}
 use Rattle.chip_base.specs.Messages.{reset_in}
-use Rattle.uart_lane.specs.Cycle.{begun, ended, frame_of, heard_by, may_begin, received, sent, set_in, unit_cycle}
+use Rattle.uart_lane.specs.Cycle.{begun, ended, frame_of, heard_by, may_begin, received, sent, set_in, uart_cycle}
 use Rattle.uart_lane.specs.Receiving.{receive}
 use Rattle.uart_lane.specs.Script.{byte_up}
 use Rattle.uart_lane.specs.State.{UartState}
@@ -30,8 +30,8 @@ received_receives s g now enabled frame l p q = record {
 
 -- without a Reset, the receiver does what it does alone
 pub unit_receives : (s : UartState) (now : ℕ) (down : Option Down) → reset_in down ≡ 0
-    → (enabled : Bool) × (frame : ℕ) × Receives s now enabled frame (unit_cycle s now down)
-unfolding unit_cycle
+    → (enabled : Bool) × (frame : ℕ) × Receives s now enabled frame (uart_cycle s now down)
+unfolding uart_cycle
 unit_receives s now None h = (_, _, received_receives s (sent (begun s) now) now _ _ (transmitter_leaves s now) refl refl)
 unit_receives s now (Some Reset) h = absurd (omega (arith, h))
 unit_receives s now (Some (Set reg word)) h =
@@ -60,8 +60,8 @@ begun_settings s true h = rw h record { enabled = refl; bit = refl }
 begun_settings s false h = rw h record { enabled = refl; bit = refl }
 
 -- without a message, by the settings before the cycle
-pub unit_receives_so : (s : UartState) (now : ℕ) → Receives s now s.enabled (frame_of s) (unit_cycle s now None)
-unfolding unit_cycle
+pub unit_receives_so : (s : UartState) (now : ℕ) → Receives s now s.enabled (frame_of s) (uart_cycle s now None)
+unfolding uart_cycle
 unit_receives_so s now =
     let a : SameSettings s (begun s) = begun_settings s _ refl in
     let b : SameSettings (begun s) (sent (begun s) now).unit = sent_settings (begun s) now _ _ refl refl in

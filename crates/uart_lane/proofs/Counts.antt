@@ -7,7 +7,7 @@ use Rattle.chip_base.specs.declared.message.Up.{Up}
 use Rattle.chip_base.specs.Messages.{data_in, credit_in, done_in}
 use Rattle.uart_lane.specs.State.{UartState}
 use Rattle.chip_base.specs.Given.{Given}
-use Rattle.uart_lane.specs.Cycle.{appended, set_in, may_begin, begun, ended, sent, heard_by, received, with_byte, unit_cycle}
+use Rattle.uart_lane.specs.Cycle.{appended, set_in, may_begin, begun, ended, sent, heard_by, received, with_byte, uart_cycle}
 use Rattle.uart_lane.specs.Counts.{KeepsCount}
 
 -- the bytes in the unit and the credit that goes up
@@ -93,8 +93,8 @@ worked-count s now = received-count (sent (begun s) now) now ∙ sent-count (beg
 worked-done : (s : UartState) (now : ℕ) → done_in (received (sent (begun s) now) now).up ≡ 0
 worked-done s now = received-done (sent (begun s) now) now ∙ sent-done (begun s) now
 
-pub keeps_count : (s : UartState) (now : ℕ) (down : Option Down) → KeepsCount s down (unit_cycle s now down).unit (unit_cycle s now down).up
-unfolding unit_cycle
+pub keeps_count : (s : UartState) (now : ℕ) (down : Option Down) → KeepsCount s down (uart_cycle s now down).unit (uart_cycle s now down).up
+unfolding uart_cycle
 keeps_count s now None = record {
   entries = λ r h. worked-count s now ∙ omega arith;
   after_reset = λ r. absurd (omega arith);
@@ -113,5 +113,5 @@ keeps_count s now (Some (Set reg word)) = record {
 
 -- what a cycle does, where the unit after it and its message are known by equations
 pub counts_kept : (s : UartState) (now : ℕ) (down : Option Down) (new : UartState) (up : Option Up)
-    → new ≡ (unit_cycle s now down).unit → up ≡ (unit_cycle s now down).up → KeepsCount s down new up
+    → new ≡ (uart_cycle s now down).unit → up ≡ (uart_cycle s now down).up → KeepsCount s down new up
 counts_kept s now down new up e u = rw (e, u) (keeps_count s now down)

@@ -15,11 +15,11 @@ use Rattle.chip_base.specs.declared.message.Down.TheVariants.{Reset, Set}
 use Rattle.chip_base.specs.declared.script.UartStep.{UartStep}
 use Rattle.chip_base.specs.declared.script.UartStep.TheVariants.{Expect}
 use Rattle.uart_lane.specs.Counts.{bytes_out}
-use Rattle.uart_lane.specs.Cycle.{unit_cycle}
+use Rattle.uart_lane.specs.Cycle.{uart_cycle}
 use Rattle.uart_lane.specs.Hearing.{sent_in, sent_since, HearsAll, HearsItself}
 use Rattle.uart_lane.specs.Receiver.{Receiver}
 use Rattle.uart_lane.specs.Receiving.{bytes_of, current, framed, heard_with, is_sent, last_64, looked, passed, passes, ready, receive, run}
-use Rattle.uart_lane.specs.State.{UartState, power_on}
+use Rattle.uart_lane.specs.State.{UartState, uart_start}
 use Rattle.chip_base.proofs.Runs.{after_more, after_none, given_from_zero}
 use Rattle.uart_lane.proofs.Along.{Receives, unit_receives}
 use Rattle.uart_lane.proofs.Heard.{hears_enough}
@@ -192,15 +192,15 @@ abbrev pub since : UartState → Given UartState → List ℕ → List ℕ
 since s g all = cond (eqb (length g.unit.receiver.steps) (length s.receiver.steps)) (all ++ bytes_out g.event) []
 
 worked_keeps : (s : UartState) (now : ℕ) (down : Option Down) (all : List ℕ) → reset_in down ≡ 0 → Keeps s.receiver all
-    → Keeps (unit_cycle s now down).unit.receiver (since s (unit_cycle s now down) all)
+    → Keeps (uart_cycle s now down).unit.receiver (since s (uart_cycle s now down) all)
 worked_keeps s now down all h k =
-    let a : (enabled : Bool) × (frame : ℕ) × Receives s now enabled frame (unit_cycle s now down) = unit_receives s now down h in
-    subst (λ r. Keeps r (cond (eqb (length r.steps) (length s.receiver.steps)) (all ++ bytes_out (unit_cycle s now down).event) []))
-    (sym a.2.receiver) (receive_keeps s.receiver now (unit_cycle s now down).event a.0 a.1 all k)
+    let a : (enabled : Bool) × (frame : ℕ) × Receives s now enabled frame (uart_cycle s now down) = unit_receives s now down h in
+    subst (λ r. Keeps r (cond (eqb (length r.steps) (length s.receiver.steps)) (all ++ bytes_out (uart_cycle s now down).event) []))
+    (sym a.2.receiver) (receive_keeps s.receiver now (uart_cycle s now down).event a.0 a.1 all k)
 
 reset_keeps : (s : UartState) (now : ℕ) (all : List ℕ) → Keeps s.receiver all
-    → Keeps (unit_cycle s now (Some Reset)).unit.receiver (since s (unit_cycle s now (Some Reset)) all)
-unfolding unit_cycle
+    → Keeps (uart_cycle s now (Some Reset)).unit.receiver (since s (uart_cycle s now (Some Reset)) all)
+unfolding uart_cycle
 reset_keeps s now all k = record {
   sends = λ l. absurd (omega (arith, l));
   valid = k.valid;
@@ -209,20 +209,20 @@ reset_keeps s now all k = record {
 }
 
 cycle_keeps : (s : UartState) (now : ℕ) (down : Option Down) (all : List ℕ) → Keeps s.receiver all
-    → Keeps (unit_cycle s now down).unit.receiver (since s (unit_cycle s now down) all)
+    → Keeps (uart_cycle s now down).unit.receiver (since s (uart_cycle s now down) all)
 cycle_keeps s now None all k = worked_keeps s now None all refl k
 cycle_keeps s now (Some Reset) all k = reset_keeps s now all k
 cycle_keeps s now (Some (Set reg word)) all k = worked_keeps s now (Some (Set reg word)) all refl k
 
 run_keeps : (s : UartState) (downs : ℕ → Option Down) → Keeps s.receiver [] → (now : ℕ)
-    → Keeps (unit_after unit_cycle s 0 downs now).receiver (sent_since s downs now)
+    → Keeps (unit_after uart_cycle s 0 downs now).receiver (sent_since s downs now)
 unfolding sent_since
-run_keeps s downs k zero = subst (λ u. Keeps u.receiver []) (sym (after_none unit_cycle s 0 downs)) k
+run_keeps s downs k zero = subst (λ u. Keeps u.receiver []) (sym (after_none uart_cycle s 0 downs)) k
 run_keeps s downs k (suc now) =
-    let u : UartState = unit_after unit_cycle s 0 downs now in
+    let u : UartState = unit_after uart_cycle s 0 downs now in
     subst (λ v. Keeps v.receiver (cond (eqb (length v.receiver.steps) (length u.receiver.steps)) (sent_since s downs now ++ sent_in s downs now) []))
-    (sym (after_more unit_cycle s 0 downs now))
-    (subst (λ g. Keeps g.unit.receiver (since u g (sent_since s downs now))) (sym (given_from_zero unit_cycle s downs now))
+    (sym (after_more uart_cycle s 0 downs now))
+    (subst (λ g. Keeps g.unit.receiver (since u g (sent_since s downs now))) (sym (given_from_zero uart_cycle s downs now))
     (cycle_keeps u now (downs now) (sent_since s downs now) (run_keeps s downs k now)))
 
 -- a look at an expect step
@@ -277,36 +277,36 @@ receive_at r now (Some event) enabled frame all text k e =
     (idle_at_expect r text e k.sends) (short_text r.steps text k.valid e)
 
 worked_at : (s : UartState) (now : ℕ) (down : Option Down) (all text : List ℕ) → reset_in down ≡ 0 → Keeps s.receiver all → current s.receiver ≡ Some (Expect text)
-    → (unit_cycle s now down).unit.receiver.steps ≡ left_of s.receiver.steps (ends_with eqb (all ++ bytes_out (unit_cycle s now down).event) text)
+    → (uart_cycle s now down).unit.receiver.steps ≡ left_of s.receiver.steps (ends_with eqb (all ++ bytes_out (uart_cycle s now down).event) text)
 worked_at s now down all text h k e =
-    let a : (enabled : Bool) × (frame : ℕ) × Receives s now enabled frame (unit_cycle s now down) = unit_receives s now down h in
-    ap (λ r. r.steps) a.2.receiver ∙ receive_at s.receiver now (unit_cycle s now down).event a.0 a.1 all text k e
+    let a : (enabled : Bool) × (frame : ℕ) × Receives s now enabled frame (uart_cycle s now down) = unit_receives s now down h in
+    ap (λ r. r.steps) a.2.receiver ∙ receive_at s.receiver now (uart_cycle s now down).event a.0 a.1 all text k e
 
 cycle_at : (s : UartState) (now : ℕ) (down : Option Down) (all text : List ℕ) → Keeps s.receiver all → current s.receiver ≡ Some (Expect text)
-    → (unit_cycle s now down).unit.receiver.steps
-    ≡ left_of s.receiver.steps (eqb (reset_in down) 0 && ends_with eqb (all ++ bytes_out (unit_cycle s now down).event) text)
-unfolding unit_cycle
+    → (uart_cycle s now down).unit.receiver.steps
+    ≡ left_of s.receiver.steps (eqb (reset_in down) 0 && ends_with eqb (all ++ bytes_out (uart_cycle s now down).event) text)
+unfolding uart_cycle
 cycle_at s now None all text k e = worked_at s now None all text refl k e
 cycle_at s now (Some Reset) all text k e = refl
 cycle_at s now (Some (Set reg word)) all text k e = worked_at s now (Some (Set reg word)) all text refl k e
 
-at_power_on : (number : ℕ) (steps : List UartStep) (image : List ℕ) → list_all is_step steps ≡ true → Keeps (power_on number steps image).receiver []
+at_power_on : (number : ℕ) (steps : List UartStep) (image : List ℕ) → list_all is_step steps ≡ true → Keeps (uart_start number steps image).receiver []
 at_power_on number steps image v = record { sends = λ l. absurd (omega (arith, l)); valid = v; heard = refl }
 
-hears_itself : (s : UartState) (downs : ℕ → Option Down) (now : ℕ) → Keeps (unit_after unit_cycle s 0 downs now).receiver (sent_since s downs now)
+hears_itself : (s : UartState) (downs : ℕ → Option Down) (now : ℕ) → Keeps (unit_after uart_cycle s 0 downs now).receiver (sent_since s downs now)
     → HearsItself s downs now
 hears_itself s downs now k =
-    let u : UartState = unit_after unit_cycle s 0 downs now in
-    let same : given_after unit_cycle s 0 downs now ≡ unit_cycle u now (downs now) = given_from_zero unit_cycle s downs now in record {
+    let u : UartState = unit_after uart_cycle s 0 downs now in
+    let same : given_after uart_cycle s 0 downs now ≡ uart_cycle u now (downs now) = given_from_zero uart_cycle s downs now in record {
       kept = k.heard;
       expected = λ text e.
-          ap (λ v. v.receiver.steps) (after_more unit_cycle s 0 downs now) ∙ ap (λ g. g.unit.receiver.steps) same
+          ap (λ v. v.receiver.steps) (after_more uart_cycle s 0 downs now) ∙ ap (λ g. g.unit.receiver.steps) same
           ∙ cycle_at u now (downs now) (sent_since s downs now) text k e
           ∙ ap (λ g. left_of u.receiver.steps (eqb (reset_in (downs now)) 0 && ends_with eqb (sent_since s downs now ++ bytes_out g.event) text)) (sym same);
     }
 
 -- what a unit hears in each run from power-on
-pub hears_all : (number : ℕ) (steps : List UartStep) (image : List ℕ) → HearsAll (power_on number steps image)
+pub hears_all : (number : ℕ) (steps : List UartStep) (image : List ℕ) → HearsAll (uart_start number steps image)
 hears_all number steps image v downs now =
-    hears_itself (power_on number steps image) downs now
-    (run_keeps (power_on number steps image) downs (at_power_on number steps image v) now)
+    hears_itself (uart_start number steps image) downs now
+    (run_keeps (uart_start number steps image) downs (at_power_on number steps image v) now)

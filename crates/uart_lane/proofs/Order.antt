@@ -6,7 +6,7 @@ use Rattle.chip_base.specs.declared.message.Down.TheVariants.{Reset, Set}
 use Rattle.chip_base.specs.Messages.{data_in}
 use Rattle.uart_lane.specs.State.{UartState}
 use Rattle.chip_base.specs.Given.{Given}
-use Rattle.uart_lane.specs.Cycle.{set_in, begun, ended, sent, unit_cycle}
+use Rattle.uart_lane.specs.Cycle.{set_in, begun, ended, sent, uart_cycle}
 use Rattle.uart_lane.specs.Counts.{bytes_in, bytes_out, KeepsOrder}
 use Rattle.uart_lane.proofs.Counts.{begun-fifo, is_less, not_four}
 
@@ -38,8 +38,8 @@ pub set-bytes : (s : UartState) (reg word : ℕ) → length s.fifo + data_in (So
     → (set_in s reg word).fifo ≡ s.fifo ++ bytes_in (Some (Set reg word))
 set-bytes s reg word h = set-bytes_by s reg word _ _ refl refl h
 
-pub keeps_order : (s : UartState) (now : ℕ) (down : Option Down) → KeepsOrder s down (unit_cycle s now down).unit (unit_cycle s now down).event
-unfolding unit_cycle
+pub keeps_order : (s : UartState) (now : ℕ) (down : Option Down) → KeepsOrder s down (uart_cycle s now down).unit (uart_cycle s now down).event
+unfolding uart_cycle
 keeps_order s now None = record {
   bytes = λ r h. append-nil s.fifo ∙ sym (begun-fifo s) ∙ sym (sent-told (begun s) now);
   after_reset = λ r. absurd (omega arith);
@@ -55,5 +55,5 @@ keeps_order s now (Some (Set reg word)) = record {
 
 -- the same, where the unit after the cycle and its event are known by equations
 pub order_kept : (s : UartState) (now : ℕ) (down : Option Down) (new : UartState) (event : Option Event)
-    → new ≡ (unit_cycle s now down).unit → event ≡ (unit_cycle s now down).event → KeepsOrder s down new event
+    → new ≡ (uart_cycle s now down).unit → event ≡ (uart_cycle s now down).event → KeepsOrder s down new event
 order_kept s now down new event e v = rw (e, v) (keeps_order s now down)

@@ -10,7 +10,7 @@ use Rattle.chip_base.specs.Given.{Given}
 use Rattle.chip_base.specs.Messages.{reset_in}
 use Rattle.chip_base.specs.Runs.{given_after, unit_after}
 use Rattle.chip_base.proofs.Runs.{after_more, after_none}
-use Rattle.uart_lane.specs.Cycle.{frame_of, unit_cycle}
+use Rattle.uart_lane.specs.Cycle.{frame_of, uart_cycle}
 use Rattle.uart_lane.specs.Receipt.{byte_at, HasNext, LetsReceive, ReceivesInTime}
 use Rattle.uart_lane.specs.Receiver.{Receiver}
 use Rattle.uart_lane.specs.Receiving.{Received, bytes_of, current, framed, heard_with, is_sent, looked, passes, ready, receive, run}
@@ -111,36 +111,36 @@ under_way s now enabled frame g left byte a r = record {
   none = a.up ∙ ap option_to_list r.none;
 }
 
-first_cycle : (s : UartState) (now byte : ℕ) → HasNext s byte → 0 < s.bit → Underway (unit_cycle s now None) (frame_of s - 1) byte
+first_cycle : (s : UartState) (now byte : ℕ) → HasNext s byte → 0 < s.bit → Underway (uart_cycle s now None) (frame_of s - 1) byte
 first_cycle s now byte n p =
-    under_way s now true (frame_of s) (unit_cycle s now None) (frame_of s - 1) byte
-    (subst (λ enabled. Receives s now enabled (frame_of s) (unit_cycle s now None)) n.enabled (unit_receives_so s now))
-    (receive_begins s.receiver now (unit_cycle s now None).event (frame_of s) byte n.no_frame n.next (omega (arith, p)))
+    under_way s now true (frame_of s) (uart_cycle s now None) (frame_of s - 1) byte
+    (subst (λ enabled. Receives s now enabled (frame_of s) (uart_cycle s now None)) n.enabled (unit_receives_so s now))
+    (receive_begins s.receiver now (uart_cycle s now None).event (frame_of s) byte n.no_frame n.next (omega (arith, p)))
 
 next_cycle : (s : UartState) (now : ℕ) (down : Option Down) → reset_in down ≡ 0 → 1 < s.receiver.left
-    → Underway (unit_cycle s now down) (s.receiver.left - 1) s.receiver.byte
+    → Underway (uart_cycle s now down) (s.receiver.left - 1) s.receiver.byte
 next_cycle s now down h l =
-    let a : (enabled : Bool) × (frame : ℕ) × Receives s now enabled frame (unit_cycle s now down) = unit_receives s now down h in
-    under_way s now a.0 a.1 (unit_cycle s now down) (s.receiver.left - 1) s.receiver.byte a.2
-    (receive_goes_on s.receiver now (unit_cycle s now down).event a.0 a.1 l)
+    let a : (enabled : Bool) × (frame : ℕ) × Receives s now enabled frame (uart_cycle s now down) = unit_receives s now down h in
+    under_way s now a.0 a.1 (uart_cycle s now down) (s.receiver.left - 1) s.receiver.byte a.2
+    (receive_goes_on s.receiver now (uart_cycle s now down).event a.0 a.1 l)
 
 last_cycle : (s : UartState) (now : ℕ) (down : Option Down) → reset_in down ≡ 0 → s.receiver.left ≡ 1
-    → byte_up (unit_cycle s now down).up ≡ s.receiver.byte ∷ []
+    → byte_up (uart_cycle s now down).up ≡ s.receiver.byte ∷ []
 last_cycle s now down h l =
-    let a : (enabled : Bool) × (frame : ℕ) × Receives s now enabled frame (unit_cycle s now down) = unit_receives s now down h in
-    a.2.up ∙ ap option_to_list (receive_gives_up s.receiver now (unit_cycle s now down).event a.0 a.1 l)
+    let a : (enabled : Bool) × (frame : ℕ) × Receives s now enabled frame (uart_cycle s now down) = unit_receives s now down h in
+    a.2.up ∙ ap option_to_list (receive_gives_up s.receiver now (uart_cycle s now down).event a.0 a.1 l)
 
 runs_on : (s : UartState) (byte : ℕ) → HasNext s byte → 0 < s.bit → (t : ℕ) (downs : ℕ → Option Down) → LetsReceive (frame_of s) t downs
-    → (k : ℕ) → k + 1 < frame_of s → Underway (given_after unit_cycle s t downs k) (frame_of s - (k + 1)) byte
+    → (k : ℕ) → k + 1 < frame_of s → Underway (given_after uart_cycle s t downs k) (frame_of s - (k + 1)) byte
 runs_on s byte n p t downs l zero h =
-    subst (λ u. Underway (unit_cycle u (t + 0) (downs (t + 0))) (frame_of s - 1) byte) (sym (after_none unit_cycle s t downs))
-    (subst (λ down. Underway (unit_cycle s (t + 0) down) (frame_of s - 1) byte) (sym (ap downs (add-zero t) ∙ l.first)) (first_cycle s (t + 0) byte n p))
+    subst (λ u. Underway (uart_cycle u (t + 0) (downs (t + 0))) (frame_of s - 1) byte) (sym (after_none uart_cycle s t downs))
+    (subst (λ down. Underway (uart_cycle s (t + 0) down) (frame_of s - 1) byte) (sym (ap downs (add-zero t) ∙ l.first)) (first_cycle s (t + 0) byte n p))
 runs_on s byte n p t downs l (suc k) h =
-    let before : Underway (given_after unit_cycle s t downs k) (frame_of s - (k + 1)) byte = runs_on s byte n p t downs l k (omega (arith, h)) in
-    let u : UartState = unit_after unit_cycle s t downs (suc k) in
-    let left : u.receiver.left ≡ frame_of s - (k + 1) = ap (λ u. u.receiver.left) (after_more unit_cycle s t downs k) ∙ before.left in
-    let same : u.receiver.byte ≡ byte = ap (λ u. u.receiver.byte) (after_more unit_cycle s t downs k) ∙ before.byte in
-    let next : Underway (given_after unit_cycle s t downs (suc k)) (u.receiver.left - 1) u.receiver.byte
+    let before : Underway (given_after uart_cycle s t downs k) (frame_of s - (k + 1)) byte = runs_on s byte n p t downs l k (omega (arith, h)) in
+    let u : UartState = unit_after uart_cycle s t downs (suc k) in
+    let left : u.receiver.left ≡ frame_of s - (k + 1) = ap (λ u. u.receiver.left) (after_more uart_cycle s t downs k) ∙ before.left in
+    let same : u.receiver.byte ≡ byte = ap (λ u. u.receiver.byte) (after_more uart_cycle s t downs k) ∙ before.byte in
+    let next : Underway (given_after uart_cycle s t downs (suc k)) (u.receiver.left - 1) u.receiver.byte
     = next_cycle u (t + suc k) (downs (t + suc k)) (l.no_reset (suc k) (omega (arith, h))) (omega (arith, left, h)) in
     record { left = next.left ∙ omega (arith, left); byte = next.byte ∙ same; none = next.none }
 
@@ -148,10 +148,10 @@ comes_at : (s : UartState) (byte : ℕ) → HasNext s byte → 0 < s.bit → (t 
     → (k : ℕ) → k + 1 ≡ frame_of s → byte_at s t downs k ≡ byte ∷ []
 comes_at s byte n p t downs l zero h = absurd (omega (arith, p, h))
 comes_at s byte n p t downs l (suc k) h =
-    let before : Underway (given_after unit_cycle s t downs k) (frame_of s - (k + 1)) byte = runs_on s byte n p t downs l k (omega (arith, h)) in
-    let u : UartState = unit_after unit_cycle s t downs (suc k) in
-    let left : u.receiver.left ≡ 1 = ap (λ u. u.receiver.left) (after_more unit_cycle s t downs k) ∙ before.left ∙ omega (arith, h) in
-    let same : u.receiver.byte ≡ byte = ap (λ u. u.receiver.byte) (after_more unit_cycle s t downs k) ∙ before.byte in
+    let before : Underway (given_after uart_cycle s t downs k) (frame_of s - (k + 1)) byte = runs_on s byte n p t downs l k (omega (arith, h)) in
+    let u : UartState = unit_after uart_cycle s t downs (suc k) in
+    let left : u.receiver.left ≡ 1 = ap (λ u. u.receiver.left) (after_more uart_cycle s t downs k) ∙ before.left ∙ omega (arith, h) in
+    let same : u.receiver.byte ≡ byte = ap (λ u. u.receiver.byte) (after_more uart_cycle s t downs k) ∙ before.byte in
     last_cycle u (t + suc k) (downs (t + suc k)) (l.no_reset (suc k) (omega (arith, h))) left ∙ ap (λ b. b ∷ []) same
 
 -- the next byte of the script goes up in the last cycle of its frame

@@ -12,7 +12,7 @@ use Rattle.chip_base.specs.declared.message.Up.{Up}
 use Rattle.chip_base.specs.declared.script.UartStep.{UartStep}
 use Rattle.chip_base.specs.declared.script.UartStep.TheVariants.{At, Expect, Send, Image}
 use Rattle.chip_base.specs.Given.{Given}
-use Rattle.uart_lane.specs.Cycle.{appended, begun, ended as sent_last, frame_of, heard_by, may_begin, received, sent, set_in, unit_cycle, with_byte}
+use Rattle.uart_lane.specs.Cycle.{appended, begun, ended as sent_last, frame_of, heard_by, may_begin, received, sent, set_in, uart_cycle, with_byte}
 use Rattle.uart_lane.specs.Receiver.{Receiver}
 use Rattle.uart_lane.specs.Receiving.{bytes_of, current, ended, framed, heard_with, is_sent, looked, passed, passes, ready, receive, run}
 use Rattle.uart_lane.specs.Script.{KeepsScript, byte_up, not_begun, sent_by, to_come}
@@ -213,9 +213,9 @@ received_along s g now l p = record {
 works_along : (s : UartState) (now : ℕ) → 0 < (sent (begun s) now).unit.bit → WorksAlong s (received (sent (begun s) now) now)
 works_along s now p = received_along s (sent (begun s) now) now (transmitter_leaves s now) p
 
-pub keeps_script : (s : UartState) (now : ℕ) (down : Option Down) → 0 < (unit_cycle s now down).unit.bit
-    → KeepsScript s down (unit_cycle s now down).unit (unit_cycle s now down).up
-unfolding unit_cycle
+pub keeps_script : (s : UartState) (now : ℕ) (down : Option Down) → 0 < (uart_cycle s now down).unit.bit
+    → KeepsScript s down (uart_cycle s now down).unit (uart_cycle s now down).up
+unfolding uart_cycle
 keeps_script s now None p =
     let w : WorksAlong s (received (sent (begun s) now) now) = works_along s now p in
     record { bytes = λ r. w.bytes; after_reset = λ r. absurd (omega arith); steps = w.steps }
@@ -231,5 +231,5 @@ keeps_script s now (Some (Set reg word)) p =
 
 -- the same, where the unit after the cycle and its message are known by equations
 pub script_kept : (s : UartState) (now : ℕ) (down : Option Down) (new : UartState) (up : Option Up) → 0 < new.bit
-    → new ≡ (unit_cycle s now down).unit → up ≡ (unit_cycle s now down).up → KeepsScript s down new up
+    → new ≡ (uart_cycle s now down).unit → up ≡ (uart_cycle s now down).up → KeepsScript s down new up
 script_kept s now down new up p e u = rw (e, u) (keeps_script s now down (subst (λ s. 0 < s.bit) e p))

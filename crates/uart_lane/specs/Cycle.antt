@@ -8,7 +8,7 @@ use Rattle.chip_base.specs.Given.{Given, quiet}
 use Rattle.chip_base.specs.Messages.{credit_up, done_up, silent_up, with_word}
 use Rattle.chip_base.specs.Prescalers.{prescaler_of}
 use Rattle.uart_lane.specs.Receiving.{Received, receive}
-use Rattle.uart_lane.specs.State.{UartState, reset_state}
+use Rattle.uart_lane.specs.State.{UartState, uart_reset}
 
 -- the cycles of a bit by a control word: prescaler times baud + 1
 abbrev pub bit_time : ℕ → ℕ
@@ -70,10 +70,10 @@ received g now = record {
 
 -- a Reset drops both frames and the bytes that wait to be sent
 abbrev pub reset : UartState → Given UartState
-reset s = record { unit = reset_state s.number s.receiver; up = Some done_up; event = None }
+reset s = record { unit = uart_reset s.number s.receiver; up = Some done_up; event = None }
 
 -- one cycle: the message first, then the transmitter, then the receiver
-unfoldable pub unit_cycle : UartState → ℕ → Option Down → Given UartState
-unit_cycle s now None = received (sent (begun s) now) now
-unit_cycle s now (Some Reset) = reset s
-unit_cycle s now (Some (Set reg word)) = received (sent (begun (set_in s reg word)) now) now
+unfoldable pub uart_cycle : UartState → ℕ → Option Down → Given UartState
+uart_cycle s now None = received (sent (begun s) now) now
+uart_cycle s now (Some Reset) = reset s
+uart_cycle s now (Some (Set reg word)) = received (sent (begun (set_in s reg word)) now) now

@@ -4,7 +4,7 @@ use Rattle.chip_base.specs.Runs.{given_after}
 use Rattle.chip_base.specs.declared.event.EventKind.TheVariants.{Tx}
 use Rattle.chip_base.specs.declared.message.Down.{Down}
 use Rattle.chip_base.specs.declared.message.Down.TheVariants.{Set}
-use Rattle.uart_lane.specs.Cycle.{unit_cycle}
+use Rattle.uart_lane.specs.Cycle.{uart_cycle}
 use Rattle.uart_lane.specs.State.{UartState}
 
 -- the unit is enabled, and has nothing to send; what it receives doesn't matter
@@ -20,8 +20,8 @@ pub record BringsByte (frame t word : ℕ) (downs : ℕ → Option Down) : Type 
 
 -- a byte that comes in the cycle t leaves in the cycle t + frame - 1, and nothing leaves before
 pub record LeavesInTime (s : UartState) (frame t word : ℕ) (downs : ℕ → Option Down) : Type 0 where
-  pub before : (k : ℕ) → k + 1 < frame → (given_after unit_cycle s t downs k).event ≡ None
-  pub at : (given_after unit_cycle s t downs (frame - 1)).event
+  pub before : (k : ℕ) → k + 1 < frame → (given_after uart_cycle s t downs k).event ≡ None
+  pub at : (given_after uart_cycle s t downs (frame - 1)).event
       ≡ Some (record { cycle = t + (frame - 1); unit = s.number; kind = Tx; value = word % 256 })
 
 -- over ten bits, in whatever cycle an idle unit is given a byte

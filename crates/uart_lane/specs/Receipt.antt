@@ -3,14 +3,14 @@ use Rattle.std.specs.Prelude.{◌≡◌, ℕ, ◌+◌, ◌-◌, ◌<◌, true, L
 use Rattle.chip_base.specs.Messages.{reset_in}
 use Rattle.chip_base.specs.Runs.{given_after}
 use Rattle.chip_base.specs.declared.message.Down.{Down}
-use Rattle.uart_lane.specs.Cycle.{unit_cycle}
+use Rattle.uart_lane.specs.Cycle.{uart_cycle}
 use Rattle.uart_lane.specs.Receiving.{bytes_of, current}
 use Rattle.uart_lane.specs.Script.{byte_up}
 use Rattle.uart_lane.specs.State.{UartState}
 
 -- the byte that goes up in the cycle t + k, if one does, where the unit is `s` before the cycle t
 abbrev pub byte_at : UartState → ℕ → (ℕ → Option Down) → ℕ → List ℕ
-byte_at s t downs k = byte_up (given_after unit_cycle s t downs k).up
+byte_at s t downs k = byte_up (given_after uart_cycle s t downs k).up
 
 -- the unit is enabled and no frame of its receiver runs, and this is the next byte of the current step
 pub record HasNext (s : UartState) (byte : ℕ) : Type 0 where

@@ -17,9 +17,9 @@ pub record UartState : Type 0 where
   pub receiver : Receiver
 
 -- disabled, with the settings of a control word of zero, and without a frame; the script's place stays
-abbrev pub reset_state : ℕ → Receiver → UartState
-reset_state number receiver = record { number = number; enabled = false; bit = 2; fifo = []; left = 0; receiver = dropped receiver }
+abbrev pub uart_reset : ℕ → Receiver → UartState
+uart_reset number receiver = record { number = number; enabled = false; bit = 2; fifo = []; left = 0; receiver = dropped receiver }
 
 -- the unit at power-on, with these steps to come and these bytes for an image step
-abbrev pub power_on : ℕ → List UartStep → List ℕ → UartState
-power_on number steps image = reset_state number (at_first steps image)
+abbrev pub uart_start : ℕ → List UartStep → List ℕ → UartState
+uart_start number steps image = uart_reset number (at_first steps image)

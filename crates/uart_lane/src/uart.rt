@@ -52,8 +52,8 @@ fn with_byte(up: Option<Up>, byte: Option<u8>) -> Option<Up>
 }
 
 impl Uart {
-    ghost use Rattle.uart_lane.specs.State.{power_on, reset_state};
-    ghost use Rattle.uart_lane.specs.Cycle.{configured, appended, set_in, frame_of, begun, ended, sent, received, reset, unit_cycle};
+    ghost use Rattle.uart_lane.specs.State.{uart_start, uart_reset};
+    ghost use Rattle.uart_lane.specs.Cycle.{configured, appended, set_in, frame_of, begun, ended, sent, received, reset, uart_cycle};
     ghost use Rattle.uart_lane.specs.Counts.{KeepsCount, KeepsOrder};
     ghost use Rattle.uart_lane.specs.Frames.{SendsInTime};
     ghost use Rattle.uart_lane.specs.Hearing.{HearsAll};
@@ -63,9 +63,9 @@ impl Uart {
     /// The unit with this number (1 to 7, as in events) at power-on. It receives what these steps say; an image step sends the
     /// bytes of `image`.
     pub fn new(unit: u8, steps: Steps0, image: Bytes) -> Uart
-        ensures state { result ≡ power_on unit steps image }
+        ensures state { result ≡ uart_start unit steps image }
         ensures texts { HearsEnough }
-        ensures hears { HearsAll (power_on unit steps image) }
+        ensures hears { HearsAll (uart_start unit steps image) }
     {
         Uart {
             number: unit,
@@ -103,7 +103,7 @@ impl Uart {
     }
 
     fn reset(&mut self)
-        ensures { self.new ≡ reset_state self.old.number self.old.receiver }
+        ensures { self.new ≡ uart_reset self.old.number self.old.receiver }
     {
         self.enabled = false;
         self.bit = 2;
@@ -196,11 +196,11 @@ impl Uart {
     /// In the last cycle of a frame that is sent, its byte leaves: its credit goes up, and the event `Tx` has the byte as its
     /// value. In the last cycle of a frame that is received, its byte goes up as a word, in the same message where a credit goes
     /// up too. In the cycle of a Reset only its answer, done, goes up, and there is no event.
-    #[tactic(auto, unfolding(crate::specs::Cycle::unit_cycle))]
+    #[tactic(auto, unfolding(crate::specs::Cycle::uart_cycle))]
     pub fn cycle(&mut self, now: Cycle, down: Option<Down>) -> UnitOut
-        ensures unit { self.new ≡ (unit_cycle self.old now down).unit }
-        ensures up { result.up ≡ (unit_cycle self.old now down).up }
-        ensures event { result.event ≡ (unit_cycle self.old now down).event }
+        ensures unit { self.new ≡ (uart_cycle self.old now down).unit }
+        ensures up { result.up ≡ (uart_cycle self.old now down).up }
+        ensures event { result.event ≡ (uart_cycle self.old now down).event }
         ensures count { KeepsCount self.old down self.new result.up }
         ensures order { KeepsOrder self.old down self.new result.event }
         ensures script { KeepsScript self.old down self.new result.up }
