@@ -1,5 +1,5 @@
 -- A row's test of a word by mask is its test of the word's fields.
-use Rattle.std.proofs.Common.{◌≡◌, ℕ, ◌+◌, ◌-◌, ◌*◌, ◌/◌, ◌%◌, ◌^◌, ◌<◌, Bool, true, false, eqb, List, [], ◌∷◌, Option, Some, None, refl, sym, ap, ◌∙◌, arith, bit_and, bit_or, cond, map}
+use Rattle.std.proofs.Common.{◌≡◌, ℕ, ◌+◌, ◌-◌, ◌*◌, ◌/◌, ◌%◌, ◌^◌, ◌<◌, Bool, true, false, eqb, List, [], ◌∷◌, Option, Some, None, refl, ap, ◌∙◌, arith, bit_and, bit_or, cond, map}
 use Rattle.std.specs.List.{find, list_all}
 use Rattle.std.specs.Option.{option_map}
 use Rattle.std.specs.Int.{bit_at}
@@ -10,8 +10,7 @@ use Rattle.std.proofs.lemmas.Bool.Decides.{nat_tests}
 use Rattle.rv_decode.specs.Fields.{field}
 use Rattle.rv_decode.specs.declared.instr.Op.{Op}
 use Rattle.rv_decode.specs.declared.instr.Op.TheVariants.{Lui}
-use Rattle.rv_decode.specs.declared.instr.Instr.{Instr}
-use Rattle.rv_decode.specs.Rows.{Row, ops, rows, matches, field_mask, field_pattern, mask_of, pattern_of, row_of, row_at, decoded, operands, instr_of}
+use Rattle.rv_decode.specs.Rows.{ops, matches, field_mask, field_pattern, mask_of, pattern_of, row_of, decoded, operands, instr_of}
 use Rattle.rv_decode.specs.ByFields.{has_field, op_at, instr_at}
 
 -- where two masks share no bit, what lies under their union is p and q exactly where it lies under each

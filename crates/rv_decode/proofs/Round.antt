@@ -1,6 +1,5 @@
 -- The word of an instruction decodes to that instruction, format by format.
 use Rattle.std.proofs.Common.{◌≡◌, ℕ, ◌+◌, ◌*◌, ◌/◌, ◌%◌, ◌^◌, ◌<◌, Option, Some, refl, sym, ap, ◌∙◌, arith}
-use Rattle.std.specs.Option.{option_map}
 use Rattle.soc_words.specs.Word.{sign_extended}
 use Rattle.rv_decode.specs.Fields.{field, joined, placed, i_bits, s_bits, b_bits, u_bits, j_bits}
 use Rattle.rv_decode.specs.declared.instr.Op.{Op}

@@ -1,5 +1,5 @@
 -- At most one row matches a word, so the row that matches decides what the word decodes to.
-use Rattle.std.proofs.Common.{◌≡◌, ℕ, Bool, true, false, eqb, get_or, List, [], ◌∷◌, Option, Some, None, refl, sym, ap, ◌∙◌, arith, bit_and, cond, map}
+use Rattle.std.proofs.Common.{◌≡◌, ℕ, Bool, true, eqb, get_or, List, [], ◌∷◌, Option, Some, None, refl, sym, ap, ◌∙◌, arith, bit_and, cond, map}
 use Rattle.std.specs.List.{find, Contains, position_or_len}
 use Rattle.std.specs.Option.{option_map}
 use mathlib.Core.Bool.{not, ◌&&◌}

@@ -1,11 +1,11 @@
 -- A definition: the table of compressed parcels, by the RISC-V Instruction Set Manual, Volume I, ""C" Extension for Compressed
 -- Instructions". A hint is the instruction that it stands for.
-use Rattle.std.specs.Prelude.{◌==◌, ℕ, ◌+◌, ◌*◌, ◌%◌, ◌^◌, Bool, ◌&&◌, if◌then◌else◌, List, [], ◌∷◌, Option, IsTrue}
+use Rattle.std.specs.Prelude.{◌==◌, ℕ, ◌+◌, ◌%◌, Bool, ◌&&◌, if◌then◌else◌, List, [], ◌∷◌, Option, IsTrue}
 use Rattle.std.specs.List.{find, list_all, Contains}
 use Rattle.std.specs.Option.{option_map}
 use mathlib.Core.Bool.{not}
 use Rattle.soc_words.specs.Word.{sign_extended}
-use Rattle.rv_decode.specs.Fields.{field, joined, placed, s_bits, b_bits, u_bits, j_bits}
+use Rattle.rv_decode.specs.Fields.{field, joined, placed}
 use Rattle.rv_decode.specs.declared.instr.Instr.{Instr}
 use Rattle.rv_decode.specs.declared.instr.Op.{Op}
 use Rattle.rv_decode.specs.declared.instr.Op.TheVariants.{Lui, Jal, Jalr, Beq, Bne, Lw, Sw, Addi, Andi, Slli, Srli, Srai, Add, Xor, Or, And, Sub, Ebreak}
