@@ -1,8 +1,7 @@
 //! The hub on short programs.
 
 use crate::Hub;
-use chip_base::{Boot, ChipUnit, Down, HartView, PhaseWord, Setup, Up};
-use std::alloc::Global;
+use chip_base::{Boot, Down, PhaseWord, Setup, Up};
 
 /// addi x1, x0, 5; lui x2, 0x80000; sw x1, 0(x2); jal x0, 0
 const STORE_FIVE: [u8; 16] = [
@@ -49,93 +48,110 @@ const fn word_up(word: u32) -> Up {
     }
 }
 
-/// What is seen of the hub after a cycle.
-#[derive(Clone, Copy)]
-struct Seen {
-    harts: [HartView; 2],
-    /// The first word of DMEM.
-    first: Option<u32>,
-    /// mip of both harts.
-    mips: [Option<u32>; 2],
-    /// mcause and mtval of hart 1.
-    trap: [Option<u32>; 2],
-    downs: [Option<Down>; 7],
-}
-
-/// What is seen after this cycle, where a program began at cycle 0 and in one cycle this arrived.
-fn seen_after(
-    alloc: Global,
-    program: &[u8],
-    last: u64,
-    arrival: u64,
-    ups: &[Option<Up>; 7],
-) -> Option<Seen> {
-    if program.len() > 65_536 {
-        return None;
-    }
-    let mut hub = Hub::new(alloc, &Setup::standard(), Boot::Raw, program).ok()?;
-    let mut downs = [None; 7];
-    for now in 0..=last {
-        downs = hub.cycle(now, if now == arrival { ups } else { &[None; 7] });
-    }
-    Some(Seen {
-        harts: [hub.hart(0), hub.hart(1)],
-        first: hub.word(0x8000_0000),
-        mips: [hub.csr(0, 0x344), hub.csr(1, 0x344)],
-        trap: [hub.csr(1, 0x342), hub.csr(1, 0x343)],
-        downs,
-    })
-}
-
-/// The same where nothing arrives.
-fn seen_alone(alloc: Global, program: &[u8], last: u64) -> Option<Seen> {
-    seen_after(alloc, program, last, 0, &[None; 7])
-}
-
-/// A store and a message take effect at the grant; hart 0 starts hart 1, whose first store is to an address where nothing lies.
 #[test]
-fn runs_programs(rt: HostRuntime) {
-    let before = seen_alone(rt.alloc(), &STORE_FIVE, 3).expect(&rt, "a hub");
-    assert!(&rt; before.first == Some(0));
-    let after = seen_alone(rt.alloc(), &STORE_FIVE, 4).expect(&rt, "a hub");
-    assert!(&rt; after.first == Some(5) && after.harts[0].retired == 3 && after.harts[0].pc == 12);
-    let light = seen_alone(rt.alloc(), &LIGHT, 4).expect(&rt, "a hub");
-    assert!(&rt;
-        light.downs
-            == [
-                None,
-                None,
-                None,
-                Some(Down::Set { reg: 4, word: 1 }),
-                None,
-                None,
-                None
-            ]
-    );
-    let parked = seen_alone(rt.alloc(), &TWO_HARTS, 13).expect(&rt, "a hub");
-    assert!(&rt; parked.harts[1].phase == PhaseWord::Parked);
-    let started = seen_alone(rt.alloc(), &TWO_HARTS, 14).expect(&rt, "a hub");
-    assert!(&rt; started.harts[1].phase == PhaseWord::Ready && started.harts[1].pc == 0x40);
-    let wanting = seen_alone(rt.alloc(), &TWO_HARTS, 19).expect(&rt, "a hub");
-    assert!(&rt; wanting.trap == [Some(0), Some(0)]);
-    let trapped = seen_alone(rt.alloc(), &TWO_HARTS, 20).expect(&rt, "a hub");
-    assert!(&rt; trapped.trap == [Some(7), Some(0x4000_0000)]);
-    let settings = seen_alone(rt.alloc(), &SETTINGS, 23).expect(&rt, "a hub");
-    assert!(&rt; settings.harts[0].regs[2..7] == [64_000_000, 65_536, 65_536, 0xfe, 0x03d0]);
+fn stores_at_the_grant(rt: HostRuntime) {
+    let hub = Hub::new(rt.alloc(), &Setup::standard(), Boot::Raw, &STORE_FIVE);
+    let Ok(mut hub) = hub else {
+        panic!(&rt; "the hub was refused");
+    };
+    for now in 0..4 {
+        hub.cycle(now, &[None; 7]);
+    }
+    assert!(&rt; hub.word(0x8000_0000) == Some(0));
+    hub.cycle(4, &[None; 7]);
+    assert!(&rt; hub.word(0x8000_0000) == Some(5));
+    assert!(&rt; hub.hart(0).retired == 3);
+    assert!(&rt; hub.hart(0).pc == 12);
+    assert!(&rt; hub.word(0x8001_0000).is_none());
+    assert!(&rt; hub.csr(1, 0xf14) == Some(1));
+    assert!(&rt; hub.csr(0, 0x7c0).is_none());
 }
 
-/// A load of one byte beside the received one takes it. A pin that rises and may interrupt raises fast line 4 for both harts.
 #[test]
-fn hears_the_units(rt: HostRuntime) {
-    let mut byte = [None; 7];
-    byte[ChipUnit::Uart0.place()] = Some(word_up(0x41));
-    let narrow = seen_after(rt.alloc(), &NARROW, 8, 0, &byte).expect(&rt, "a hub");
-    assert!(&rt; narrow.harts[0].retired == 3);
-    assert!(&rt; narrow.harts[0].regs[2] == 0 && narrow.harts[0].regs[3] == 0);
-    let mut pin = [None; 7];
-    pin[ChipUnit::Gpio.place()] = Some(word_up(1));
-    let low = seen_after(rt.alloc(), &PIN_INTERRUPT, 4, 5, &pin).expect(&rt, "a hub");
-    assert!(&rt; low.mips == [Some(0), Some(0)]);
-    let high = seen_after(rt.alloc(), &PIN_INTERRUPT, 5, 5, &pin).expect(&rt, "a hub");
-    assert!(&rt; high.mips == [Some(0x0010_0000), Some(0x0010_0000)]);
+fn sends_a_message_at_the_grant(rt: HostRuntime) {
+    let hub = Hub::new(rt.alloc(), &Setup::standard(), Boot::Raw, &LIGHT);
+    let Ok(mut hub) = hub else {
+        panic!(&rt; "the hub was refused");
+    };
+    for now in 0..4 {
+        hub.cycle(now, &[None; 7]);
+    }
+    let downs = hub.cycle(4, &[None; 7]);
+    assert!(&rt; downs[3] == Some(Down::Set { reg: 4, word: 1 }));
+    assert!(&rt; downs[0].is_none() && downs[4].is_none());
+}
+
+/// Hart 0 starts hart 1, whose first store is to an address where nothing lies.
+#[test]
+fn starts_hart_1(rt: HostRuntime) {
+    let hub = Hub::new(rt.alloc(), &Setup::standard(), Boot::Raw, &TWO_HARTS);
+    let Ok(mut hub) = hub else {
+        panic!(&rt; "the hub was refused");
+    };
+    for now in 0..14 {
+        hub.cycle(now, &[None; 7]);
+        assert!(&rt; hub.hart(1).phase == PhaseWord::Parked);
+    }
+    hub.cycle(14, &[None; 7]);
+    assert!(&rt; hub.hart(1).phase == PhaseWord::Ready);
+    assert!(&rt; hub.hart(1).pc == 0x40);
+    for now in 15..20 {
+        hub.cycle(now, &[None; 7]);
+    }
+    assert!(&rt; hub.csr(1, 0x342) == Some(0));
+    hub.cycle(20, &[None; 7]);
+    assert!(&rt; hub.csr(1, 0x342) == Some(7));
+    assert!(&rt; hub.csr(1, 0x343) == Some(0x4000_0000));
+}
+
+#[test]
+fn tells_the_settings(rt: HostRuntime) {
+    let hub = Hub::new(rt.alloc(), &Setup::standard(), Boot::Raw, &SETTINGS);
+    let Ok(mut hub) = hub else {
+        panic!(&rt; "the hub was refused");
+    };
+    for now in 0..24 {
+        hub.cycle(now, &[None; 7]);
+    }
+    let regs = hub.hart(0).regs;
+    assert!(&rt; regs[2] == 64_000_000);
+    assert!(&rt; regs[3] == 65_536 && regs[4] == 65_536);
+    assert!(&rt; regs[5] == 0xfe);
+    assert!(&rt; regs[6] == 0x03d0);
+}
+
+/// A load of one byte beside the received one takes it.
+#[test]
+fn takes_the_entry_by_a_byte(rt: HostRuntime) {
+    let hub = Hub::new(rt.alloc(), &Setup::standard(), Boot::Raw, &NARROW);
+    let Ok(mut hub) = hub else {
+        panic!(&rt; "the hub was refused");
+    };
+    let mut ups = [None; 7];
+    ups[0] = Some(word_up(0x41));
+    hub.cycle(0, &ups);
+    for now in 1..9 {
+        hub.cycle(now, &[None; 7]);
+    }
+    assert!(&rt; hub.hart(0).retired == 3);
+    assert!(&rt; hub.hart(0).regs[2] == 0);
+    assert!(&rt; hub.hart(0).regs[3] == 0);
+}
+
+/// A pin that rises and may interrupt raises fast line 4 for both harts.
+#[test]
+fn raises_the_line_of_the_pins(rt: HostRuntime) {
+    let hub = Hub::new(rt.alloc(), &Setup::standard(), Boot::Raw, &PIN_INTERRUPT);
+    let Ok(mut hub) = hub else {
+        panic!(&rt; "the hub was refused");
+    };
+    for now in 0..5 {
+        hub.cycle(now, &[None; 7]);
+    }
+    assert!(&rt; hub.csr(0, 0x344) == Some(0));
+    let mut ups = [None; 7];
+    ups[3] = Some(word_up(1));
+    hub.cycle(5, &ups);
+    assert!(&rt; hub.csr(0, 0x344) == Some(0x0010_0000));
+    assert!(&rt; hub.csr(1, 0x344) == Some(0x0010_0000));
 }
