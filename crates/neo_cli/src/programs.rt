@@ -1,7 +1,7 @@
 //! Small programs for the tests, and the reports that they give.
 
 /// addi x1, x0, 5; lui x2, 0x80000; sw x1, 0(x2); jal x0, 0
-pub const STORE_FIVE: [u32; 4] = [0x0050_0093, 0x8000_0137, 0x0011_2023, 0x0000_006f];
+pub const STORE_FIVE: &[u32] = &[0x0050_0093, 0x8000_0137, 0x0011_2023, 0x0000_006f];
 
 pub const STORE_FIVE_RUN: &str = "cycles 100
 boot raw
@@ -21,7 +21,7 @@ end
 ";
 
 /// ebreak
-pub const EBREAK: [u32; 1] = [0x0010_0073];
+pub const EBREAK: &[u32] = &[0x0010_0073];
 
 pub const EBREAK_START: &str = "cycles 0
 boot raw
@@ -37,6 +37,9 @@ mem 00000000 73001000000000000000000000000000
 end
 ";
 
+/// No instruction: the first word is zero.
+pub const EMPTY: &[u32] = &[];
+
 pub const EMPTY_START: &str = "cycles 0
 boot raw
 hart 0 ready pc 00000000 retired 0
@@ -50,7 +53,7 @@ end
 ";
 
 /// UART0 is enabled and sends an A: lui x1, 0xfff50; addi x2, x0, 1; sw x2, 0(x1); addi x2, x0, 0x41; sw x2, 4(x1); jal x0, 0
-pub const SEND_A: [u32; 6] = [
+pub const SEND_A: &[u32] = &[
     0xfff5_00b7,
     0x0010_0113,
     0x0020_a023,
@@ -81,7 +84,7 @@ end
 ";
 
 /// The same with UART1: lui x1, 0xfff60 in place of the first word.
-pub const SEND_BY_UART1: [u32; 6] = [
+pub const SEND_BY_UART1: &[u32] = &[
     0xfff6_00b7,
     0x0010_0113,
     0x0020_a023,
@@ -103,7 +106,7 @@ end
 
 /// Both UARTs are enabled, then each sends an A, UART0 in cycle 18 and UART1 in cycle 23: lui x1, 0xfff50; lui x2, 0xfff60;
 /// addi x3, x0, 1; sw x3, 0(x1); sw x3, 0(x2); addi x3, x0, 0x41; sw x3, 4(x1); sw x3, 4(x2); jal x0, 0
-pub const SEND_BY_BOTH: [u32; 9] = [
+pub const SEND_BY_BOTH: &[u32] = &[
     0xfff5_00b7,
     0xfff6_0137,
     0x0010_0193,
@@ -133,7 +136,7 @@ end
 /// The DMA copies the first two words to 80000000, from cycle 24 on, one access a cycle. CTRL is loaded in cycle 28, and the copy is
 /// done: lui x1, 0xffed0; sw x0, 4(x1); lui x2, 0x80000; sw x2, 8(x1); addi x3, x0, 2; sw x3, 12(x1); addi x3, x0, 1; sw x3, 0(x1);
 /// lw x4, 0(x1); jal x0, -4
-pub const COPY_TWO: [u32; 10] = [
+pub const COPY_TWO: &[u32] = &[
     0xffed_00b7,
     0x0000_a223,
     0x8000_0137,
@@ -162,7 +165,7 @@ end
 
 /// The DMA is to copy to 40000000, where nothing is: its first store is refused. Then CTRL and FAULT are loaded, the latter by
 /// lw x5, 16(x1).
-pub const COPY_NOWHERE: [u32; 11] = [
+pub const COPY_NOWHERE: &[u32] = &[
     0xffed_00b7,
     0x0000_a223,
     0x4000_0137,
@@ -203,7 +206,7 @@ end
 ";
 
 /// c.nop; c.li x10, -1; c.nop; addi x12, x10, 6, which crosses a word border; c.j 0
-pub const PARCELS: [u32; 3] = [0x557d_0001, 0x0613_0001, 0xa001_0065];
+pub const PARCELS: &[u32] = &[0x557d_0001, 0x0613_0001, 0xa001_0065];
 
 pub const PARCELS_RUN: &str = "cycles 20
 boot raw
@@ -215,7 +218,7 @@ end
 ";
 
 /// mtvec becomes 0x11, vectored: csrrwi x0, mtvec, 17. The zero parcel after it traps to the base, where jal x0, 0 stands.
-pub const VECTORED: [u32; 5] = [0x3058_d073, 0, 0, 0, 0x0000_006f];
+pub const VECTORED: &[u32] = &[0x3058_d073, 0, 0, 0, 0x0000_006f];
 
 pub const VECTORED_RUN: &str = "cycles 20
 boot raw
@@ -227,7 +230,7 @@ end
 
 /// Core 0 puts 0x40 into the mailbox, raises core 1's software interrupt and sleeps. Core 1 begins at 0x40, sets mtvec to 0x1c
 /// and stores to an address where nothing is, which traps to the jump there.
-pub const START_SECOND: [u32; 19] = [
+pub const START_SECOND: &[u32] = &[
     0xfffe_00b7,
     0x0400_0113,
     0x1020_a023,
@@ -265,7 +268,7 @@ end
 ";
 
 /// mtimecmp becomes 32, the timer interrupt is enabled in mie alone, and the core sleeps till it comes, without a trap.
-pub const SLEEP_TO_32: [u32; 8] = [
+pub const SLEEP_TO_32: &[u32] = &[
     0xfff4_40b7,
     0x0200_0113,
     0x0020_a023,
@@ -299,7 +302,7 @@ end
 ";
 
 /// Pin 0 goes up: lui x1, 0xfffc0; addi x2, x0, 1; csrr x0, mscratch; sw x2, 4(x1); jal x0, 0
-pub const LIGHT: [u32; 5] = [
+pub const LIGHT: &[u32] = &[
     0xfffc_00b7,
     0x0010_0113,
     0x3400_2073,
@@ -330,7 +333,7 @@ end
 
 /// UART0 is enabled, then pins and received bytes are gathered: lui x1, 0xfff50; addi x2, x0, 1; sw x2, 0(x1); lui x3, 0xfffc0;
 /// lw x4, 0(x3); lw x5, 4(x1); or x6, x6, x5; jal x0, -12
-pub const HEAR: [u32; 8] = [
+pub const HEAR: &[u32] = &[
     0xfff5_00b7,
     0x0010_0113,
     0x0020_a023,
@@ -387,7 +390,7 @@ end
 
 /// GPIO's PENDING is cleared in cycle 12, then PENDING and IN are loaded: lui x1, 0xfffc0; addi x2, x0, -1; four times addi x0, x0, 0;
 /// sw x2, 12(x1); lw x3, 12(x1); lw x4, 0(x1); jal x0, 0
-pub const CLEAR_PENDING: [u32; 10] = [
+pub const CLEAR_PENDING: &[u32] = &[
     0xfffc_00b7,
     0xfff0_0113,
     0x0000_0013,
@@ -416,7 +419,7 @@ end
 
 /// Pin 0 goes up in cycle 12, and down in cycle 5,616, which is in the second stretch of 4,096 cycles: lui x1, 0xfffc0;
 /// addi x2, x0, 1; sw x2, 4(x1); addi x3, x0, 700; addi x3, x3, -1; bne x3, x0, -4; sw x0, 4(x1); jal x0, 0
-pub const TOGGLE_LATE: [u32; 8] = [
+pub const TOGGLE_LATE: &[u32] = &[
     0xfffc_00b7,
     0x0010_0113,
     0x0020_a223,
