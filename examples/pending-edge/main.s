@@ -1,4 +1,4 @@
-# Clears GPIO's PENDING in cycle 12. By the script pin 3's rise reaches the front in that very cycle and is cleared with the rest; pin 5's
+# Clears GPIO's PENDING in cycle 12. By the script pin 3's rise reaches PENDING in that very cycle and is cleared with the rest; pin 5's
 # rise comes a cycle later and stays. x3 is PENDING then, and x4 is IN.
 
         .option norvc                   # each instruction a word of its own
