@@ -8,7 +8,7 @@ use Rattle.rv_decode.specs.Fields.{joined, b_bits, j_bits}
 use Rattle.rv_decode.specs.Rows.{Row, rows, matches, instr_of, operands, decoded}
 use Rattle.rv_decode.specs.declared.instr.Op.{Op}
 use Rattle.rv_decode.specs.declared.format.Format.{Format}
-use Rattle.rv_decode.specs.declared.format.Format.TheVariants.{Register, Immediate, Shift, Store, Branch, Upper, Jump, Csr, CsrNumber, Bare}
+use Rattle.rv_decode.specs.declared.format.Format.TheVariants.{Register, Immediate, Shift, Offset, Store, Branch, Upper, Jump, Csr, CsrNumber, Bare}
 use Rattle.core_pair.specs.Execute.{is_jump}
 
 -- a format whose immediate is even
@@ -45,6 +45,7 @@ even_operands w op Jump h = even_extended_jump (joined j_bits w)
 even_operands w op Register h = grind arith
 even_operands w op Immediate h = grind arith
 even_operands w op Shift h = grind arith
+even_operands w op Offset h = grind arith
 even_operands w op Store h = grind arith
 even_operands w op Upper h = grind arith
 even_operands w op Csr h = grind arith
@@ -57,6 +58,7 @@ same_op w op Jump = refl
 same_op w op Register = refl
 same_op w op Immediate = refl
 same_op w op Shift = refl
+same_op w op Offset = refl
 same_op w op Store = refl
 same_op w op Upper = refl
 same_op w op Csr = refl

@@ -3,7 +3,7 @@ use Rattle.std.proofs.Common.{◌≡◌, ◌<◌, ◌≤◌, ◌⊎◌, ℕ, suc
 use Rattle.std.specs.Prelude.{Contains}
 use Rattle.std.specs.List.{find}
 use Rattle.std.specs.Option.{unwrap_or}
-use Rattle.soc_bus.specs.Rotation.{Turns, order_after, served_in_turn, wants_it}
+use Rattle.soc_bus.specs.Rotation.{ArbiterState, order_after, served_in_turn, wants_it}
 use Rattle.soc_bus.specs.declared.arbiter.Master.{Master}
 use Rattle.soc_bus.specs.declared.arbiter.Master.TheVariants.{Core0, Core1, Dma}
 
@@ -82,7 +82,7 @@ served_after last m [] short wants = absurd (omega arith)
 served_after last m (w ∷ rest) short wants =
     here_or_later last m rest (find (wants_it w) (order_after last)) (one_grant (wants_it w) last m wants.0) (λ s less. served_after s m rest (omega arith) wants.1)
 
-pub served_soon : (turns : Turns) (first : ℕ) (m : Master) (second third : ℕ) → wants_it first m ≡ true → wants_it second m ≡ true → wants_it third m ≡ true
+pub served_soon : (turns : ArbiterState) (first : ℕ) (m : Master) (second third : ℕ) → wants_it first m ≡ true → wants_it second m ≡ true → wants_it third m ≡ true
     → Contains (served_in_turn turns (first ∷ second ∷ third ∷ [])) (Some m)
 served_soon turns first m second third e f g =
     let most = at_most_two turns.last m in
