@@ -1,19 +1,20 @@
 -- What the statuses of a call say.
 use Rattle.std.proofs.Common.{◌≡◌, ◌≢◌, ℕ, arith, inl, inr, Bool, true, false, List, Option, Some, None, Result, Ok, Err, refl, ap, sym, subst, ◌∙◌}
-use Rattle.std.specs.Prelude.{◌⊎◌, ◌==◌}
+use Rattle.std.specs.Prelude.{◌⊎◌, ◌==◌, IsTrue}
 use Rattle.std.proofs.lemmas.Bool.Decides.{Decides-eqb}
 use Rattle.bench_inputs.specs.Inputs.{image_reading, settings_reading, script_reading}
 use Rattle.bench_inputs.proofs.Ends.{Any, HasStatus, image_ends, image_large, script_ends, settings_ends}
 use Rattle.bench_plan.specs.Answers.{Done, ended, refused}
 use Rattle.bench_plan.specs.Calls.{Call, Tells, WritesText}
 use Rattle.bench_plan.specs.Ends.{Ends}
-use Rattle.bench_plan.specs.Keeps.{Keeps}
+use Rattle.bench_plan.specs.Keeps.{Keeps, TellsWhole, answer_of}
 use Rattle.bench_plan.specs.Readings.{Fault, Reading}
 use Rattle.bench_plan.specs.Steps.{Comes}
-use Rattle.bench_plan.proofs.Ends.{comes_ends, comes_split, ends_then, ends_weaker, keeps_refuses, keeps_still}
+use Rattle.bench_plan.proofs.Ends.{comes_ends, comes_split, ends_then, ends_weaker, keeps_refuses, keeps_sink, keeps_still, keeps_whole}
 use Rattle.bench_plan.proofs.Keeping.{answers_from}
 use Rattle.bench_shelf.specs.Held.{Held}
 use Rattle.bench_words.specs.Jobs.{Job}
+use Rattle.soc_words.specs.Causes.{Rose, AppendsBeginning}
 use Rattle.chip_base.specs.Settings.{Values}
 use Rattle.chip_whole.specs.Chip.{ChipState}
 use Rattle.bench_job.specs.Plans.{image_step, plan_of, report_step, run_plan, seat_reading, settings_step, usage_fault}
@@ -46,6 +47,16 @@ run_ends job = ends_then Any MakesNone IsRunFault (seat_reading job) (report_ste
 plan_ends : (job : Option Job) → Ends MakesNone (λ f. Unit {0}) (plan_of job)
 plan_ends None = tt
 plan_ends (Some job) = ends_weaker MakesNone MakesNone IsRunFault (λ f. Unit {0}) (run_plan job) (λ d e. e) (λ f e. tt) (run_ends job)
+
+-- 7 comes only where the sink failed
+pub sink_failed : (job : Option Job) (c : Call) → Keeps (plan_of job) c → c.status ≡ 7 → Rose c.puts c.puts_after
+sink_failed job c k seven = keeps_sink (λ f. Unit {0}) (plan_of job) c (plan_ends job) k seven
+
+-- told whole where no read and no put failed
+pub told_whole : (job : Option Job) (c : Call) → Keeps (plan_of job) c → IsTrue c.before.discloses
+    → (Rose c.before.read_faults c.after.read_faults → ⊥) → (Rose c.puts c.puts_after → ⊥)
+    → TellsWhole (answer_of (plan_of job) c) c ⊎ ((c.status ≡ 9) × AppendsBeginning c.written c.written_after (answer_of (plan_of job) c).text)
+told_whole job c k = keeps_whole (λ f. Unit {0}) (plan_of job) c (plan_ends job) k
 
 pub still : (job : Option Job) (c : Call) → Keeps (plan_of job) c → (c.after.write_faults ≡ c.before.write_faults) × ((q : List ℕ) → c.after.file q ≡ c.before.file q)
 still job c k = keeps_still (λ f. Unit {0}) (plan_of job) c (plan_ends job) k

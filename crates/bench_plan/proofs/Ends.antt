@@ -8,7 +8,7 @@ use Rattle.soc_words.specs.Causes.{AppendsBeginning}
 use Rattle.bench_plan.specs.Answers.{Done, File, ended, refused}
 use Rattle.bench_plan.specs.Calls.{Call, Tells}
 use Rattle.bench_plan.specs.Ends.{Ends, EndsBoth}
-use Rattle.bench_plan.specs.Keeps.{Keeps, MayMake}
+use Rattle.bench_plan.specs.Keeps.{Keeps, MayMake, TellsWhole, answer_of}
 use Rattle.bench_plan.specs.Readings.{Fault, Reading, gives, refuses, asks, followed}
 use Rattle.bench_plan.specs.Steps.{Comes}
 
@@ -42,16 +42,27 @@ ends_then P R Q (asks name limit rest) f e next = λ b. ends_then P R Q (rest b)
 ok_not_err : {d : Done} {fault : Fault} → ◌≡◌ {A = Result Done Fault} (Ok d) (Err fault) → ⊥
 ok_not_err e = absurd (cc)
 
+none_some : {out : Option File} {f : File} → out ≡ None → out ≡ Some f → ⊥
+none_some a b = absurd (cc)
+
+makes_none : (Q : Fault → Type 0) (plan : Reading Done) (c : Call) → Ends (λ d. d.out ≡ None) Q plan → (q : List ℕ) → MayMake plan c q → ⊥
+makes_none Q plan c e q m = none_some (comes_ends (λ d. d.out ≡ None) Q c.before plan (Ok m.0) e m.2) m.3
+
 -- a plan that makes no file changes none
 pub keeps_still : (Q : Fault → Type 0) (plan : Reading Done) (c : Call) → Ends (λ d. d.out ≡ None) Q plan → Keeps plan c
     → (c.after.write_faults ≡ c.before.write_faults) × ((q : List ℕ) → c.after.file q ≡ c.before.file q)
-keeps_still Q plan c e k = (k.no_writes makes_none, λ q. k.others q (makes_none q))
-  where
-    none_some : {out : Option File} {f : File} → out ≡ None → out ≡ Some f → ⊥
-    none_some a b = absurd (cc)
+keeps_still Q plan c e k = (k.no_writes (makes_none Q plan c e), λ q. k.others q (makes_none Q plan c e q))
 
-    makes_none : (q : List ℕ) → MayMake plan c q → ⊥
-    makes_none q m = none_some (comes_ends (λ d. d.out ≡ None) Q c.before plan (Ok m.0) e m.2) m.3
+-- what makes no file fails by the sink alone
+pub keeps_sink : (Q : Fault → Type 0) (plan : Reading Done) (c : Call) → Ends (λ d. d.out ≡ None) Q plan → Keeps plan c → c.status ≡ 7 → Rose c.puts c.puts_after
+keeps_sink Q plan c e k seven = elim (k.write seven) [ inl rose ↦ rose | inr made ↦ absurd (makes_none Q plan c e made.0 made.1) ]
+
+-- and is told whole where no read and no put fails
+pub keeps_whole : (Q : Fault → Type 0) (plan : Reading Done) (c : Call) → Ends (λ d. d.out ≡ None) Q plan → Keeps plan c → IsTrue c.before.discloses
+    → (Rose c.before.read_faults c.after.read_faults → ⊥) → (Rose c.puts c.puts_after → ⊥)
+    → TellsWhole (answer_of plan c) c ⊎ ((c.status ≡ 9) × AppendsBeginning c.written c.written_after (answer_of plan c).text)
+keeps_whole Q plan c e k discloses reads puts =
+    k.complete discloses (record { reads = reads; writes = λ name may rose. makes_none Q plan c e name may; puts = puts })
 
 -- a plan that refuses at once
 pub keeps_refuses : (fault : Fault) (c : Call) → fault.status ≢ 0 → fault.status ≢ 3 → fault.status ≢ 7 → fault.status ≢ 9 → Keeps (refuses fault) c

@@ -5,7 +5,7 @@ use Rattle.bench_shelf.specs.Held.{Held, Stays}
 use Rattle.bench_shelf.proofs.Writing.{appended_none}
 use Rattle.soc_words.specs.Causes.{Rose, AppendsBeginning}
 use Rattle.bench_plan.specs.Answers.{Answer, Done, File, answer_in, done, ended, missed, refused}
-use Rattle.bench_plan.specs.Calls.{Call, ChangesOnly, Tells, TellsStop}
+use Rattle.bench_plan.specs.Calls.{Call, ChangesOnly, FailsWrite, Tells, TellsStop}
 use Rattle.bench_plan.specs.Keeps.{Answers, CutsShort, IsFaultless, Keeps, MayMake, TellsWhole, answer_of}
 use Rattle.bench_plan.specs.Readings.{Fault, Reading}
 use Rattle.bench_plan.specs.Steps.{Asks, Comes, Misses, ReadsBy, Results}
@@ -32,8 +32,8 @@ tells_from told old c s e t = record {
   beginning = t.beginning;
   whole = t.whole;
   made = t.made;
-  cut_short = λ seven. elim (t.cut_short seven) [ inl rose ↦ inl (subst (λ n. Rose n c.after.write_faults) s.writes rose) | inr rest ↦ inr rest ];
-  no_fault = λ zero. ((t.no_fault zero).0, (t.no_fault zero).1 ∙ s.writes);
+  cut_short = λ seven. elim (t.cut_short seven) [ inl failed ↦ inl (failed.0, failed.1, subst (λ n. Rose n c.after.write_faults) s.writes failed.2) | inr rest ↦ inr rest ];
+  no_fault = λ zero. ((t.no_fault zero).0, (t.no_fault zero).1 ∙ s.writes, (t.no_fault zero).2);
   changes = changes_moved told.out old c.before c.after s t.changes;
 }
 
@@ -72,11 +72,12 @@ three_zero : ◌≡◌ {A = ℕ} 3 0 → ⊥
 three_zero e = absurd (cc)
 
 -- told whole, or memory was told
-whole_from : (told : Answer) (c : Call) → Tells told c → IsFaultless c → TellsWhole told c ⊎ ((c.status ≡ 9) × AppendsBeginning c.written c.written_after told.text)
-whole_from told c t faultless = by_status told c t
-    (λ e. inl (record { status = e; text = elim (t.whole e) [ inl all ↦ all | inr rose ↦ absurd (faultless.puts rose) ]; files = (t.made e, t.changes) }))
+whole_from : (told : Answer) (c : Call) → Tells told c → (Rose c.puts c.puts_after → ⊥) → (FailsWrite told.out c → ⊥)
+    → TellsWhole told c ⊎ ((c.status ≡ 9) × AppendsBeginning c.written c.written_after told.text)
+whole_from told c t puts writes = by_status told c t
+    (λ e. inl (record { status = e; text = elim (t.whole e) [ inl all ↦ all | inr rose ↦ absurd (puts rose) ]; files = (t.made e, t.changes) }))
     (λ e. inr (e, t.beginning))
-    (λ zero e. absurd (elim (t.cut_short e) [ inl rose ↦ faultless.writes rose | inr rest ↦ faultless.puts rest.0 ]))
+    (λ zero e. absurd (elim (t.cut_short e) [ inl failed ↦ writes failed | inr rest ↦ puts rest.0 ]))
 
 pub answers_from : (told : Answer) (c : Call) → Tells told c → c.status ≢ 7 → c.status ≢ 9 → Answers told c
 answers_from told c t seven nine =
@@ -87,14 +88,14 @@ answers_from told c t seven nine =
       files = (t.made same, t.changes);
     }
 
-why_cut : (told : Answer) (c : Call) → Tells told c → c.status ≡ 7 → Rose c.puts c.puts_after ⊎ Rose c.before.write_faults c.after.write_faults
-why_cut told c t seven = elim (t.cut_short seven) [ inl rose ↦ inr rose | inr rest ↦ inl rest.0 ]
+why_cut : (told : Answer) (c : Call) → Tells told c → c.status ≡ 7 → Rose c.puts c.puts_after ⊎ FailsWrite told.out c
+why_cut told c t seven = elim (t.cut_short seven) [ inl failed ↦ inr failed | inr rest ↦ inl rest.0 ]
 
 cuts_from : (told : Answer) (c : Call) → Tells told c → told.status ≢ 7 → c.status ≡ 7 → CutsShort told c
 cuts_from told c t other seven = record {
   done = by_status told c t (λ e. absurd (other (sym e ∙ seven))) (λ e. absurd (apart e seven nine_seven)) (λ zero e. zero);
   text = t.beginning;
-  files = λ faultless. elim (t.cut_short seven) [ inl rose ↦ absurd (faultless rose) | inr rest ↦ (rest.1, t.changes) ];
+  files = λ faultless. elim (t.cut_short seven) [ inl failed ↦ absurd (faultless failed.2) | inr rest ↦ (rest.1, t.changes) ];
   why = why_cut told c t seven;
 }
 
@@ -106,14 +107,15 @@ only_made plan c (Some f) q changes other = changes q (other f refl)
 -- what the plan comes to was told
 keeps_end : (plan : Reading Done) (c : Call) (end : Result Done Fault) → Comes c.before plan end → IsPlain (ended end).status → Tells (ended end) c → Keeps plan c
 keeps_end plan c end comes plain t = record {
-  complete = λ discloses faultless. subst (λ a. TellsWhole a c ⊎ ((c.status ≡ 9) × AppendsBeginning c.written c.written_after a.text)) (sym (same discloses)) (whole_from (ended end) c t faultless);
+  complete = λ discloses faultless. subst (λ a. TellsWhole a c ⊎ ((c.status ≡ 9) × AppendsBeginning c.written c.written_after a.text)) (sym (same discloses))
+      (whole_from (ended end) c t faultless.puts (λ failed. faultless.writes failed.0.name (made_here end comes failed.0 failed.1) failed.2));
   answered = λ discloses three seven nine. subst (λ a. Answers a c) (sym (same discloses)) (answers_from (ended end) c t seven nine);
   cut_short = λ discloses seven. subst (λ a. CutsShort a c) (sym (same discloses)) (cuts_from (ended end) c t plain.no_failure seven);
   refused = λ three. absurd (not_three three);
   want_of_memory = λ nine. inr (inl (record { end = end; comes = comes; text = t.beginning }));
   ran = λ three nine. record { end = end; comes = comes; tells = t };
   read = λ three. absurd (not_three three);
-  write = why_cut (ended end) c t;
+  write = λ seven. elim (why_cut (ended end) c t seven) [ inl rose ↦ inl rose | inr failed ↦ inr (failed.0.name, made_here end comes failed.0 failed.1, failed.2) ];
   done = λ zero. (t.reads, (t.no_fault zero).1, (t.no_fault zero).0);
   no_reads = λ none. t.reads;
   no_writes = λ none. unwritten end comes t.changes none;
@@ -127,6 +129,10 @@ keeps_end plan c end comes plain t = record {
   where
     same : IsTrue c.before.discloses → answer_of plan c ≡ ended end
     same discloses = comes_answer c.before plan end discloses comes
+
+    made_here : (r : Result Done Fault) → Comes c.before plan r → (f : File) → (ended r).out ≡ Some f → MayMake plan c f.name
+    made_here (Ok d) k f e = (d, f, k, e, refl)
+    made_here (Err fault) k f e = absurd (cc)
 
     not_three : c.status ≡ 3 → ⊥
     not_three three = by_status (ended end) c t (λ e. plain.no_miss (sym e ∙ three)) (λ e. apart e three nine_three) (λ zero e. apart e three seven_three)
@@ -197,6 +203,7 @@ keeps_miss plan old c text s before_misses t = record {
     line = text;
     misses = m;
     text = (answers_from (missed text) c t (λ e. apart three e three_seven) (λ e. apart three e three_nine)).text;
+    writes = t.changes.0 ∙ s.writes;
     answers = misses_answer old c.after plan text m;
   };
   want_of_memory = λ nine. inr (inr (record { line = text; misses = m; text = t.beginning }));
@@ -220,7 +227,7 @@ keeps_miss plan old c text s before_misses t = record {
     not_seven : c.status ≡ 7 → ⊥
     not_seven seven = by_status (missed text) c t (λ e. apart e seven three_seven) (λ e. apart e seven nine_seven) (λ z e. three_zero z)
 
-    whole : IsTrue old.discloses → IsFaultless (from old c) → TellsWhole (missed text) (from old c) ⊎ ((c.status ≡ 9) × AppendsBeginning c.written c.written_after text)
+    whole : IsTrue old.discloses → IsFaultless plan (from old c) → TellsWhole (missed text) (from old c) ⊎ ((c.status ≡ 9) × AppendsBeginning c.written c.written_after text)
     whole discloses faultless = by_status (missed text) c t
         (λ e. inl (record {
           status = e;

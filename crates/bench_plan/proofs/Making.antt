@@ -22,7 +22,7 @@ made_failed f text old new written puts s rose = record {
   beginning = record { front = []; back = text; whole = refl; new_is = appended_none written };
   whole = λ e. absurd (cc);
   made = λ e. absurd (cc);
-  cut_short = λ e. inl rose;
+  cut_short = λ e. inl (f, refl, rose);
   no_fault = λ e. absurd (cc);
   changes = s.others;
 }

@@ -34,10 +34,14 @@ abbrev pub IsMade : Option File → Held → Type 0
 IsMade None h = Unit {0}
 IsMade (Some f) h = IsTrue h.discloses → h.file f.name ≡ Some f.bytes
 
--- only this file may have changed, and nothing was written where there is none
+-- only this file may have changed, and no write failed where there is none
 abbrev pub ChangesOnly : Option File → Held → Held → Type 0
 ChangesOnly None old new = (new.write_faults ≡ old.write_faults) × ((q : List ℕ) → new.file q ≡ old.file q)
 ChangesOnly (Some f) old new = (q : List ℕ) → (q ≡ f.name → ⊥) → new.file q ≡ old.file q
+
+-- the file that is to be made couldn't be written
+abbrev pub FailsWrite : Option File → Call → Type 0
+FailsWrite out c = (f : File) × (out ≡ Some f) × Rose c.before.write_faults c.after.write_faults
 
 -- a beginning of the text was appended, and all of it where the sink didn't fail
 abbrev pub WritesText : List ℕ → Call → Type 0
@@ -54,8 +58,8 @@ pub record Tells (told : Answer) (c : Call) : Type 0 where
   pub beginning : AppendsBeginning c.written c.written_after told.text
   pub whole : c.status ≡ told.status → (c.written_after ≡ appended c.written told.text) ⊎ Rose c.puts c.puts_after
   pub made : c.status ≡ told.status → IsMade told.out c.after
-  pub cut_short : c.status ≡ 7 → Rose c.before.write_faults c.after.write_faults ⊎ (Rose c.puts c.puts_after × IsMade told.out c.after)
-  pub no_fault : c.status ≡ 0 → (c.puts_after ≡ c.puts) × (c.after.write_faults ≡ c.before.write_faults)
+  pub cut_short : c.status ≡ 7 → FailsWrite told.out c ⊎ (Rose c.puts c.puts_after × IsMade told.out c.after)
+  pub no_fault : c.status ≡ 0 → (c.puts_after ≡ c.puts) × (c.after.write_faults ≡ c.before.write_faults) × (c.written_after ≡ appended c.written told.text)
   pub changes : ChangesOnly told.out c.before c.after
 
 -- an answer without a file is told to a sink, whatever shelf stands beside it

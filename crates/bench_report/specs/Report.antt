@@ -3,8 +3,10 @@ use Rattle.std.specs.Prelude.{◌==◌, ℕ, ◌+◌, ◌*◌, ◌/◌, ◌%◌,
 use Rattle.std.specs.List.{flat_map, list_all}
 use Rattle.hex.specs.Hex.{encode_lower}
 use Rattle.soc_words.specs.Text.{hex_word, line, joined_below}
-use Rattle.chip_hub.specs.Cycle.{boot_view, hart_view}
+use Rattle.chip_hub.specs.Views.{boot_view, hart_view}
 use Rattle.chip_whole.specs.Chip.{ChipState}
+use Rattle.chip_base.specs.UnitTable.{lane_name, unit_row}
+use Rattle.chip_base.specs.declared.chip_unit.ChipUnit.TheVariants.{Uart0, Uart1}
 use Rattle.chip_base.specs.declared.boot.BootView.{BootView}
 use Rattle.chip_base.specs.declared.boot.BootView.TheVariants.{Raw, Direct, Monitor as ByMonitor, Handed}
 use Rattle.chip_base.specs.declared.event.Event.{Event}
@@ -28,13 +30,6 @@ pub record Shown : Type 0 where
 unfoldable pub cycles_text : ℕ → List ℕ
 cycles_text cycles = line (codes "cycles " ++ decimal cycles)
 
--- a unit by its number, from 1
-abbrev pub unit_name : ℕ → List ℕ
-unit_name unit =
-    if unit == 1 then codes "uart0" else if unit == 2 then codes "uart1" else if unit == 3 then codes "spi"
-    else if unit == 4 then codes "gpio" else if unit == 5 then codes "pwm" else if unit == 6 then codes "slink"
-    else if unit == 7 then codes "wdt" else codes "hub"
-
 abbrev pub event_kind_name : EventKind → List ℕ
 event_kind_name Tx = codes "tx"
 event_kind_name Out = codes "out"
@@ -45,12 +40,12 @@ event_kind_name Fire = codes "fire"
 -- a UART's value is a byte, in two digits; all else is a word, in eight
 abbrev pub value_text : ℕ → ℕ → List ℕ
 value_text unit value =
-    if unit == 1 then encode_lower (value % 256 ∷ []) else if unit == 2 then encode_lower (value % 256 ∷ [])
+    if unit == (unit_row Uart0).number then encode_lower (value % 256 ∷ []) else if unit == (unit_row Uart1).number then encode_lower (value % 256 ∷ [])
     else hex_word value
 
 unfoldable pub event_text : Event → List ℕ
 event_text e =
-    line (decimal e.cycle ++ codes " " ++ unit_name e.unit ++ codes " " ++ event_kind_name e.kind ++ codes " "
+    line (decimal e.cycle ++ codes " " ++ lane_name e.unit ++ codes " " ++ event_kind_name e.kind ++ codes " "
     ++ value_text e.unit e.value)
 
 -- the lines of events, in their order

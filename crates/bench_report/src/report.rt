@@ -5,12 +5,13 @@ ghost use Rattle.hex.specs.Hex.{encode_lower};
 ghost use Rattle.soc_words.specs.Text.{line, hex_word, joined_below};
 ghost use Rattle.bench_shelf.specs.Sink.{Writes};
 ghost use Rattle.bench_report.specs.Bank.{base_of, bytes_of};
-ghost use Rattle.bench_report.specs.Report.{cycles_text, unit_name, event_kind_name, value_text, event_text, events_text, boot_text, phase_text, hart_text, register_text, register_text_in, hart_lines_text, unless_parked, row_text, row_text_in, memory_text, end_text};
+ghost use Rattle.bench_report.specs.Report.{cycles_text, event_kind_name, value_text, event_text, events_text, boot_text, phase_text, hart_text, register_text, register_text_in, hart_lines_text, unless_parked, row_text, row_text_in, memory_text, end_text};
 ghost use Rattle.chip_whole.specs.Stands.{ForEach};
 
 use crate::bank::Bank;
 use bench_shelf::{Sink, SinkFault};
-use chip_base::{BootView, Event, EventKind, HartView, PhaseWord};
+use chip_base::chip_unit::lane_name;
+use chip_base::{BootView, ChipUnit, Event, EventKind, HartView, PhaseWord};
 use chip_net::Chip;
 use chip_whole::Standing;
 use text_line::Line;
@@ -24,23 +25,6 @@ pub fn cycles_line(cycles: u32) -> Line
     line.push_number(u64::from(cycles));
     line.push(b"\n");
     line
-}
-
-/// The name of a unit by its number, which is 0 of the hub.
-fn unit_name(unit: u8) -> &'static str
-    ensures name { result.now ≡ unit_name unit }
-    ensures short { length result.now ≤ 5 }
-{
-    match unit {
-        1 => "uart0",
-        2 => "uart1",
-        3 => "spi",
-        4 => "gpio",
-        5 => "pwm",
-        6 => "slink",
-        7 => "wdt",
-        _ => "hub",
-    }
 }
 
 fn event_kind_name(kind: EventKind) -> &'static str
@@ -62,7 +46,7 @@ fn push_value(line: &mut Line, unit: u8, value: u32)
     ensures text { line.new ≡ line.old ++ value_text unit value }
     ensures len { length line.new ≤ length line.old + 8 }
 {
-    if unit == 1 || unit == 2 {
+    if unit == ChipUnit::Uart0.number() || unit == ChipUnit::Uart1.number() {
         line.push_byte((value % 256) as u8);
     } else {
         line.push_word(value);
@@ -73,7 +57,7 @@ fn push_value(line: &mut Line, unit: u8, value: u32)
 fn event_line(event: &Event) -> Line
     ensures { result ≡ event_text event.now }
 {
-    let unit = unit_name(event.unit);
+    let unit = lane_name(event.unit);
     let kind = event_kind_name(event.kind);
     let mut line = Line::new();
     line.push_number(event.cycle);

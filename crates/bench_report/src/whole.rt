@@ -3,7 +3,7 @@ ghost use Rattle.std.specs.Prelude.{◌≡◌, ◌+◌, ◌^◌, ◌<◌, ◌≤
 ghost use Rattle.bench_report.specs.Report.{boot_text, cycles_text, events_text, report, shown};
 ghost use Rattle.bench_shelf.specs.Sink.{Writes};
 ghost use Rattle.chip_base.specs.Settings.{values_of};
-ghost use Rattle.chip_hub.specs.Cycle.{boot_view};
+ghost use Rattle.chip_hub.specs.Views.{boot_view};
 ghost use Rattle.chip_whole.specs.Chip.{after, bare, start};
 ghost use Rattle.chip_whole.specs.Next.{next_events};
 ghost use Rattle.chip_whole.specs.Stands.{ForEach, IsStepped};

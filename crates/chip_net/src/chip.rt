@@ -70,6 +70,7 @@ impl Chip {
         requires fits { length image.items ≤ setup.now.imem }
         ensures chip { IfOk result (λ chip. (board : Board) → ⟦<Chip as Standing>⟧.stands board chip (start (values_of setup.now) image.items script)) }
         ensures now { IfOk result (λ chip. ⟦<Chip as Standing>⟧.now chip ≡ 0) }
+        ensures told { IfOk result (λ chip. ⟦<Chip as Standing>⟧.told chip ≡ []) }
     {
         let hub = Hub::new(alloc, setup, boot, &image)?;
         let units = Units::new(alloc, setup, &image, script)?;

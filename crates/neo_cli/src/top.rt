@@ -1,11 +1,12 @@
 //! The top call.
-ghost use Rattle.std.specs.Prelude.{◌≡◌, ℕ, List, None, map, string_bytes};
+ghost use Rattle.std.specs.Prelude.{◌≡◌, ℕ, IsTrue, List, None, map, string_bytes};
 ghost use Rattle.bench_job.specs.Plans.{plan_of, usage_fault};
 ghost use Rattle.bench_job.specs.Statuses.{IsStatus, IsTooLarge};
 ghost use Rattle.bench_plan.specs.Answers.{refused};
 ghost use Rattle.bench_plan.specs.Calls.{Tells, call_of};
-ghost use Rattle.bench_plan.specs.Keeps.{Keeps};
+ghost use Rattle.bench_plan.specs.Keeps.{IsTold, Keeps};
 ghost use Rattle.bench_words.specs.Jobs.{job_of};
+ghost use Rattle.soc_words.specs.Causes.{Rose};
 
 use bench_job::perform;
 use bench_shelf::{Shelf, Sink};
@@ -45,6 +46,11 @@ pub fn bench<R: Threads + Sync, S: Shelf, O: Sink>(
     ensures no_job { job_of (map string_bytes words.now.items) ≡ None → ((S.held shelf.new).read_faults ≡ (S.held shelf.old).read_faults)
         × Tells (refused usage_fault) (call_of S.held O.written O.faults shelf.old shelf.new out.old out.new result) }
     ensures too_large { result ≡ 4 → IsTooLarge (job_of (map string_bytes words.now.items)) (call_of S.held O.written O.faults shelf.old shelf.new out.old out.new result) }
+
+    // 7 comes only where the sink failed, and where neither a read nor a put failed the whole answer is told, or want of memory
+    ensures write { result ≡ 7 → Rose (O.faults out.old) (O.faults out.new) }
+    ensures complete { IsTrue (S.held shelf.old).discloses → (Rose (S.held shelf.old).read_faults (S.held shelf.new).read_faults → ⊥) → (Rose (O.faults out.old) (O.faults out.new) → ⊥)
+        → IsTold (plan_of (job_of (map string_bytes words.now.items))) (call_of S.held O.written O.faults shelf.old shelf.new out.old out.new result) }
 
     // no file is changed
     ensures writes { (S.held shelf.new).write_faults ≡ (S.held shelf.old).write_faults }

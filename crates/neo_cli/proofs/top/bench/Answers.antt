@@ -1,4 +1,4 @@
-use Rattle.bench_job.proofs.Ends.{no_job, statuses, still, too_large, usage_only}
+use Rattle.bench_job.proofs.Ends.{no_job, sink_failed, statuses, still, told_whole, too_large, usage_only}
 use Rattle.neo_cli.proofs.top.bench.Goals as goal
 
 pub returns-clause-keeps : goal.returns-clause-keeps
@@ -21,3 +21,9 @@ returns-clause-writes g c = (still _ _ c.perform.ensures).0
 
 pub returns-clause-files_stay : goal.returns-clause-files_stay
 returns-clause-files_stay g c = (still _ _ c.perform.ensures).1
+
+pub returns-clause-write : goal.returns-clause-write
+returns-clause-write g c = sink_failed _ _ c.perform.ensures
+
+pub returns-clause-complete : goal.returns-clause-complete
+returns-clause-complete g c = told_whole _ _ (rw c.deref.ensures.value at c.perform.ensures)
