@@ -1,10 +1,10 @@
 -- What a plan may come to.
 use Rattle.std.proofs.Common.{◌≡◌, ◌≢◌, ℕ, inl, inr, Bool, true, false, List, [], Option, Some, None, Result, Ok, Err, refl, sym, subst, ◌∙◌}
-use Rattle.std.specs.Prelude.{◌⊎◌, ◌==◌}
+use Rattle.std.specs.Prelude.{◌⊎◌, ◌==◌, IsTrue}
 use Rattle.std.proofs.lemmas.Bool.Decides.{Decides-eqb}
 use Rattle.bench_shelf.specs.Held.{Held}
 use Rattle.bench_shelf.proofs.Writing.{appended_none}
-use Rattle.soc_words.specs.Causes.{AppendsBeginning}
+use Rattle.soc_words.specs.Causes.{Rose, AppendsBeginning}
 use Rattle.bench_plan.specs.Answers.{Done, File, ended, refused}
 use Rattle.bench_plan.specs.Calls.{Call, Tells}
 use Rattle.bench_plan.specs.Ends.{Ends, EndsBoth}

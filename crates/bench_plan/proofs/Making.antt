@@ -1,10 +1,11 @@
 -- A file that isn't made: what is told then.
-use Rattle.std.proofs.Common.{ℕ, arith, inl, inr, List, [], Option, Some, refl}
+use Rattle.std.proofs.Common.{◌≡◌, ℕ, arith, inl, inr, List, [], Option, None, Some, refl, subst}
+use Rattle.std.specs.Prelude.{IsTrue}
 use Rattle.bench_shelf.specs.Held.{Held, StaysBut}
 use Rattle.bench_shelf.proofs.Writing.{appended_none}
 use Rattle.soc_words.specs.Causes.{Rose}
 use Rattle.bench_plan.specs.Answers.{File, done}
-use Rattle.bench_plan.specs.Calls.{Call, Tells}
+use Rattle.bench_plan.specs.Calls.{Call, Tells, TellsText}
 
 abbrev pub unmade : Held → Held → Option (List ℕ) → ℕ → ℕ → Call
 unmade old new written puts status =
@@ -43,3 +44,36 @@ made_wanting f text old new written puts s = record {
   no_fault = λ e. absurd (cc);
   changes = s.others;
 }
+
+none_some : {f : File} → ◌≡◌ {A = Option File} None (Some f) → ⊥
+none_some e = absurd (cc)
+
+-- the file was made, and then a line was told
+pub made_told : (f : File) (text : List ℕ) (old new : Held) (written written_after : Option (List ℕ)) (puts puts_after status : ℕ) → StaysBut f.name old new
+    → new.write_faults ≡ old.write_faults → (IsTrue old.discloses → new.file f.name ≡ Some f.bytes)
+    → TellsText (done (record { text = text; out = None })) written written_after puts puts_after status
+    → Tells (done (record { text = text; out = Some f })) (record {
+      before = old;
+      after = new;
+      written = written;
+      written_after = written_after;
+      puts = puts;
+      puts_after = puts_after;
+      status = status;
+    })
+made_told f text old new written written_after puts puts_after status s quiet made told =
+    let t = told new in
+    let here : IsTrue new.discloses → new.file f.name ≡ Some f.bytes = λ d. made (subst (λ b. IsTrue b) s.disclosure d) in
+    record {
+      disclosure = s.disclosure;
+      reads = s.reads;
+      writes_later = s.later;
+      puts_later = t.puts_later;
+      statuses = t.statuses;
+      beginning = t.beginning;
+      whole = t.whole;
+      made = λ e. here;
+      cut_short = λ seven. elim (t.cut_short seven) [ inl failed ↦ absurd (none_some failed.1) | inr rest ↦ inr (rest.0, here) ];
+      no_fault = λ zero. ((t.no_fault zero).0, quiet, (t.no_fault zero).2);
+      changes = s.others;
+    }
