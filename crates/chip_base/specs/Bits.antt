@@ -1,4 +1,4 @@
--- Bits of words, and the halves of numbers of 64 bits.
+-- A definition: bits of words, and the halves of numbers of 64 bits.
 use Rattle.std.specs.Prelude.{ℕ, ◌+◌, ◌*◌, ◌/◌, ◌%◌, ◌^◌, Bool, if◌then◌else◌}
 
 -- a bit of a word, by its place, where it is set

@@ -1,4 +1,4 @@
--- What a cycle of a unit does to the number of its entries.
+-- A law over definitions: what a cycle of a unit does to the number of its entries.
 use Rattle.std.specs.Prelude.{◌≡◌, ◌≤◌, ℕ, ◌+◌, Bool, Option}
 use Rattle.chip_base.specs.declared.message.Down.{Down}
 use Rattle.chip_base.specs.declared.message.Up.{Up}

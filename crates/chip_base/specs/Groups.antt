@@ -1,4 +1,4 @@
--- Texts of groups of lanes: groups between slashes, in each the names of lanes between commas.
+-- A definition: texts of groups of lanes: groups between slashes, in each the names of lanes between commas; and, as a law, that what is printed is read.
 use Rattle.std.specs.Prelude.{ℕ, ◌≡◌, ◌<◌, ◌+◌, ◌==◌, Bool, List, [], ◌∷◌, ◌++◌, All, Contains, map, filter, flat_map, length, slice_index, slice_index_or, IsPermutation, Option, Some, None, codes, if◌then◌else◌, option_map}
 use Rattle.std.specs.List.{slice_split, list_any, list_all, join_with_byte}
 use Rattle.std.specs.Str.{bytes_eq}

@@ -1,4 +1,4 @@
--- The eight prescalers that a unit's control word selects from.
+-- A definition: the eight prescalers that a unit's control word selects from.
 use Rattle.std.specs.Prelude.{ℕ, [], ◌∷◌, get_or, ◌/◌, ◌%◌}
 
 -- the prescaler of a control word, by its bits 3 to 5

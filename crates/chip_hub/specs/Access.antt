@@ -1,4 +1,4 @@
--- An access that was granted.
+-- A definition: an access that was granted.
 use Rattle.std.specs.Prelude.{◌==◌, ℕ, ◌+◌, Bool, true, List, length, Option, Some, None, Result, Ok, Err, if◌then◌else◌}
 use Rattle.chip_base.specs.Bits.{bit_if}
 use Rattle.chip_base.specs.UnitTable.{unit_numbered, unit_row}

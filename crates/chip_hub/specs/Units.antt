@@ -1,4 +1,4 @@
--- An access to the registers of a unit: it reaches the unit's own front alone, and sends a message to that unit alone.
+-- A definition: an access to the registers of a unit: it reaches the unit's own front alone, and sends a message to that unit alone.
 use Rattle.std.specs.Prelude.{ℕ, List, Option, Some, None, Result, Ok, Err, count_by, is_some, map, set}
 use Rattle.chip_base.specs.UnitTable.{all_units, link_place}
 use Rattle.chip_base.specs.declared.chip_unit.ChipUnit.{ChipUnit}

@@ -1,4 +1,4 @@
--- The places of a unit's two links.
+-- Serves the code alone: the places of a unit's two links.
 use Rattle.std.specs.Prelude.{ℕ, List, Option}
 use Rattle.chip_base.specs.declared.message.Down.{Down}
 use Rattle.chip_base.specs.declared.message.Up.{Up}

@@ -1,4 +1,4 @@
--- The units with their links, and their time.
+-- Serves the code alone: the units with their links, and their time.
 use Rattle.std.specs.Prelude.{ℕ}
 use Rattle.chip_whole.specs.Chip.{Units}
 

@@ -1,4 +1,4 @@
--- The chip: the hub and its units, joined by delay lines and stepped at once.
+-- A definition: the chip: the hub and its units, joined by delay lines and stepped at once.
 use Rattle.std.specs.Prelude.{ℕ, zero, suc, Bool, true, false, List, [], ◌∷◌, ◌++◌, Option, None, get_or, if◌then◌else◌, option_to_list}
 use Rattle.std.specs.List.{list_any}
 use Rattle.board_units.specs.GpioCycle.{gpio_cycle}

@@ -1,4 +1,4 @@
--- What the code of a chip keeps, and the chips of the definition that it stands for.
+-- A definition, for the contracts of code: what the code of a chip keeps, and the chips of the definition that it stands for.
 use Rattle.std.specs.Prelude.{◌≡◌, ℕ}
 use Rattle.chip_hub.specs.State.{HubState}
 use Rattle.chip_whole.specs.Chip.{Board, ChipState, Units}

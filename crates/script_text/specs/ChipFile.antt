@@ -1,4 +1,4 @@
--- What a chip file means.
+-- A definition: what a chip file means.
 use Rattle.std.specs.Prelude.{ℕ, pos, negsuc, ◌%◌, ◌==◌, ◌&&◌, Bool, true, false, List, Result, Ok, Err, Option, Some, None, codes, if◌then◌else◌, nat_le, option_map, slice_set}
 use Rattle.std.specs.Str.{bytes_eq}
 use Rattle.toml.specs.Data.{Data, integer, boolean, table, Members, no_members, member}

@@ -1,4 +1,4 @@
--- What the code's results stand for.
+-- A definition, for the contracts of code: the answers that a chip file may have.
 use Rattle.std.specs.Prelude.{◌≡◌, Result, Ok, Err, Some, None}
 use Rattle.std.specs.Str.{IsUtf8}
 use Rattle.toml.specs.Parse.{parse_document}

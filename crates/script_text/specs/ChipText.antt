@@ -1,4 +1,4 @@
--- What is printed for a chip's settings.
+-- A definition: what is printed for a chip's settings.
 use Rattle.std.specs.Prelude.{Bool, List, [], ◌∷◌, ◌++◌, codes, if◌then◌else◌, slice_index}
 use Rattle.std.specs.List.{concat}
 use Rattle.std.specs.Fmt.{decimal}

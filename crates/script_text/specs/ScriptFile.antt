@@ -1,4 +1,4 @@
--- What a script's text means.
+-- A definition: what a script's text means.
 use Rattle.std.specs.Prelude.{ℕ, ◌+◌, ◌==◌, List, [], ◌∷◌, ◌++◌, Result, Ok, Err, codes, if◌then◌else◌, fold}
 use Rattle.std.specs.Str.{bytes_eq}
 use Rattle.text_fields.specs.Fields.{Text, after, field, skip}

@@ -1,4 +1,4 @@
--- The fields of one line of a script, and the steps that they mean.
+-- A definition: the fields of one line of a script, and the steps that they mean.
 use Rattle.std.specs.Prelude.{ℕ, ◌-◌, ◌^◌, ◌==◌, Bool, true, false, List, [], ◌∷◌, Result, Ok, Err, Option, Some, None, codes, if◌then◌else◌, nat_lt}
 use Rattle.std.specs.Str.{bytes_eq}
 use Rattle.hex.specs.Hex.{decode_of}

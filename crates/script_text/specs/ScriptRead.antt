@@ -1,4 +1,4 @@
--- What the reader of scripts answers.
+-- A definition, for the contracts of code: what the reader of scripts answers.
 use Rattle.std.specs.Prelude.{◌≡◌, ◌⊎◌, ℕ, Bool, true, ◌&&◌, List, Result, Ok, Err, nat_le}
 use Rattle.std.specs.List.{list_all}
 use Rattle.std.specs.Borrow.{Bor}

@@ -1,4 +1,4 @@
--- What is printed for a script.
+-- A definition: what is printed for a script.
 use Rattle.std.specs.Prelude.{ℕ, Bool, true, [], ◌∷◌, ◌++◌, codes, if◌then◌else◌, nat_lt}
 use Rattle.std.specs.List.{flat_map, list_all}
 use Rattle.std.specs.Fmt.{decimal}

@@ -1,4 +1,4 @@
--- Accesses to the bus.
+-- A definition: accesses to the bus.
 use Rattle.std.specs.Prelude.{ℕ}
 use Rattle.soc_bus.specs.declared.access.Width.{Width}
 use Rattle.soc_bus.specs.declared.access.Width.TheVariants.{Byte, Half, Word}

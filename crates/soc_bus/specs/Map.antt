@@ -1,4 +1,4 @@
--- The address map.
+-- A definition: the address map.
 use Rattle.std.specs.Prelude.{◌≡◌, ℕ, ◌+◌, ◌-◌, ◌*◌, ◌/◌, ◌%◌, ◌^◌, ◌==◌, ◌&&◌, nat_le, nat_lt, not, Bool, true, false, List, [], ◌∷◌, ◌++◌, flat_map, map, Option, Some, None, Result, Ok, Err, if◌then◌else◌}
 use Rattle.std.specs.Option.{is_some, MatchOption}
 use Rattle.chip_base.specs.UnitTable.{all_parts, all_units, part_row, unit_row}

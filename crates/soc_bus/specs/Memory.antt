@@ -1,4 +1,4 @@
--- The two memories as a map from addresses to bytes.
+-- A definition: the two memories as a map from addresses to bytes.
 use Rattle.std.specs.Prelude.{◌≡◌, ℕ, ◌+◌, ◌-◌, ◌%◌, ◌^◌, ◌≤◌, nat_le, ◌==◌, List, [], ◌++◌, length, take, drop, replicate, slice_range, Option, Some, None, Result, Ok, Err, if◌then◌else◌}
 use Rattle.std.specs.List.{slice_get}
 use Rattle.std.specs.Int.{w8, w16, w32, from_le_bytes, to_le_bytes}

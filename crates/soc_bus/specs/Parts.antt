@@ -1,4 +1,4 @@
--- The bus's work in parts: an access to one memory, and the search for a register by halves of its address.
+-- Serves the code alone: the bus's work in parts: an access to one memory, and the search for a register by halves of its address.
 use Rattle.std.specs.Prelude.{ℕ, ◌+◌, ◌/◌, ◌%◌, ◌==◌, ◌&&◌, nat_le, List, [], ◌∷◌, length, slice_range, Option, Some, None, Result, Ok, Err, if◌then◌else◌}
 use Rattle.soc_bus.specs.Access.{width_bytes}
 use Rattle.soc_bus.specs.Map.{Register}

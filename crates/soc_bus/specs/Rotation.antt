@@ -1,4 +1,4 @@
--- ArbiterState in rotation.
+-- A definition: the arbiter, which serves the masters in rotation.
 use Rattle.std.specs.Prelude.{ℕ, ◌/◌, ◌%◌, ◌==◌, Bool, List, [], ◌∷◌, Option}
 use Rattle.std.specs.Option.{unwrap_or}
 use Rattle.std.specs.List.{find}

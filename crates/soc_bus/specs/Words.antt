@@ -1,4 +1,4 @@
--- Words as their bytes.
+-- A definition: words as their bytes.
 use Rattle.std.specs.Prelude.{ℕ, List, [], ◌∷◌, ◌++◌}
 use Rattle.std.specs.Int.{w32, to_le_bytes}
 

@@ -38,7 +38,7 @@ impl Model for Memory {
 }
 
 impl Memory {
-    /// MemoryState of these sizes in bytes, all zero. The sizes are multiples of 4,096 from 4,096 to 1,048,576.
+    /// Memories of these sizes in bytes, all zero. The sizes are multiples of 4,096 from 4,096 to 1,048,576.
     #[tactic(auto, using(crate::proofs::Bytes::length_zeros))]
     pub fn new(alloc: Global, imem: u32, dmem: u32) -> Result<Memory, NoMemory>
         requires imem { IsSize imem }

@@ -1,4 +1,4 @@
--- The fields of a line, which blanks separate.
+-- A definition: the fields of a line, which blanks separate.
 use Rattle.std.specs.Prelude.{ℕ, ◌==◌, ◌||◌, Bool, true, not, List, [], ◌∷◌, take, drop}
 use Rattle.std.specs.List.{prefix_len}
 

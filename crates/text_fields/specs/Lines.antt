@@ -1,4 +1,4 @@
--- The lines of a text.
+-- A definition: the lines of a text.
 use Rattle.std.specs.Prelude.{◌≡◌, ℕ, ◌+◌, ◌-◌, ◌==◌, ◌&&◌, Bool, true, not, List, [], ◌∷◌, ◌++◌, Option, Some, None, if◌then◌else◌, nat_lt, length, slice_index, take}
 use Rattle.std.specs.List.{list_all}
 use Rattle.text_fields.specs.Fields.{Text}

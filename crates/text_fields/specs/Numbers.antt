@@ -1,4 +1,4 @@
--- Decimal numbers in texts.
+-- A definition: decimal numbers in texts.
 use Rattle.std.specs.Prelude.{ℕ, ◌+◌, ◌-◌, ◌*◌, ◌&&◌, Bool, List, length, Option, Some, None, nat_lt, nat_le, if◌then◌else◌, fold}
 use Rattle.std.specs.List.{list_all}
 

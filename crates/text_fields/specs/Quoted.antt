@@ -1,4 +1,4 @@
--- Texts in double quotes, with escapes.
+-- A definition: texts in double quotes, with escapes.
 use Rattle.std.specs.Prelude.{ℕ, ◌+◌, ◌*◌, ◌==◌, ◌&&◌, Bool, List, [], ◌∷◌, ◌++◌, Option, Some, None, if◌then◌else◌, nat_le}
 use Rattle.hex.specs.Hex.{hex_digit_value}
 use Rattle.text_fields.specs.Fields.{Text}

@@ -1,4 +1,4 @@
--- What a text in double quotes is: written characters one after another, and the closing quote.
+-- A law over definitions: what a text in double quotes is: written characters one after another, and the closing quote.
 use Rattle.std.specs.Prelude.{◌≡◌, ◌⊎◌, ℕ, ◌+◌, ◌*◌, ◌==◌, ◌&&◌, Bool, true, not, List, [], ◌∷◌, ◌++◌, Some}
 use Rattle.hex.specs.Hex.{hex_digit_value}
 use Rattle.text_fields.specs.Fields.{Text}

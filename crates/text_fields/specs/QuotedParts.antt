@@ -1,4 +1,4 @@
--- What the reader's places and steps in a quoted text stand for.
+-- Serves the code alone: what the reader's places and steps in a quoted text stand for.
 use Rattle.std.specs.Prelude.{ℕ, Bool, true, nat_lt, List, Vec}
 use Rattle.std.specs.Borrow.{Bor}
 use Rattle.std.specs.declared.alloc.Global.{Global}
