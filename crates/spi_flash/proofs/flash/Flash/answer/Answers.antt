@@ -1,0 +1,8 @@
+use Rattle.spi_flash.proofs.Laws.{holds_of_answers}
+use Rattle.spi_flash.proofs.flash.Flash.answer.Goals as goal
+
+pub returns-then-is_fitted-clause-law : goal.returns-then-is_fitted-clause-law
+returns-then-is_fitted-clause-law c = holds_of_answers c.args.self.now
+
+pub returns-else-is_fitted-clause-law : goal.returns-else-is_fitted-clause-law
+returns-else-is_fitted-clause-law c = holds_of_answers c.args.self.now

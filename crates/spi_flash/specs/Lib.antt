@@ -1,0 +1,6 @@
+pub mod Flash
+pub mod Ranges
+pub mod SpiCycle
+pub mod Valid
+pub mod SpiCounts
+pub mod Laws
