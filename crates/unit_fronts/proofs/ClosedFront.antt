@@ -9,7 +9,7 @@ use Rattle.unit_fronts.specs.GpioFront.{gpio_after, gpio_arrived, gpio_front, gp
 use Rattle.unit_fronts.specs.Owed.{is_open_at, one_more}
 use Rattle.unit_fronts.specs.PwmFront.{pwm_after, pwm_arrived, pwm_front, pwm_front_reset}
 use Rattle.unit_fronts.specs.SerialRegisters.{SerialRegisters, serial_arrived, serial_closed, serial_front_reset}
-use Rattle.unit_fronts.specs.UartFront.{serial_after, serial_front}
+use Rattle.unit_fronts.specs.SerialFront.{SerialKind, serial_after, serial_front}
 
 -- what each call does to a closed front in its reset state
 record HoldsClosed {F : Type 0} (m : FrontMeaning F) : Type 0 where
@@ -58,23 +58,23 @@ serial_says : (owed : ℕ) (up : Up) (done : Bool) → up.done ≡ done → 0 < 
 serial_says owed up true p l = rw (closed_by owed l, p) refl
 serial_says owed up false p l = rw (closed_by owed l, p) (ap serial_front_reset (less_none owed))
 
-serial_step : (owed : ℕ) (call : FrontCall) → answers_in call < owed
-    → serial_after (serial_front_reset owed) call ≡ serial_front_reset (owed - answers_in call)
-serial_step owed (LoadFrom reg) l = rw (closed_by owed l) (ap serial_front_reset (less_none owed))
-serial_step owed (StoreTo reg word) l = rw (closed_by owed l) (ap serial_front_reset (less_none owed))
-serial_step owed (UnitSays up) l = serial_says owed up up.done refl (omega (arith, l))
+serial_step : (kind : SerialKind) (owed : ℕ) (call : FrontCall) → answers_in call < owed
+    → serial_after kind (serial_front_reset owed) call ≡ serial_front_reset (owed - answers_in call)
+serial_step kind owed (LoadFrom reg) l = rw (closed_by owed l) (ap serial_front_reset (less_none owed))
+serial_step kind owed (StoreTo reg word) l = rw (closed_by owed l) (ap serial_front_reset (less_none owed))
+serial_step kind owed (UnitSays up) l = serial_says owed up up.done refl (omega (arith, l))
 
-serial_holds : HoldsClosed serial_front
-serial_holds = record {
-  step = serial_step;
+serial_holds : (kind : SerialKind) → HoldsClosed (serial_front kind)
+serial_holds kind = record {
+  step = serial_step kind;
   loads = λ owed l reg. rw (closed_by owed l) refl;
   stores = λ owed l reg word. rw (closed_by owed l) refl;
   last = λ up done. rw (says_done up done) refl;
 }
 
 -- a closed serial front awaits its answers
-pub serial_awaits : (s new : SerialRegisters) → new ≡ serial_closed s → AwaitsAnswers serial_front new.owed new
-serial_awaits s new e = subst (λ f. AwaitsAnswers serial_front f.owed f) (sym e) (awaits serial_front serial_holds (one_more s.owed))
+pub serial_awaits : (kind : SerialKind) (s new : SerialRegisters) → new ≡ serial_closed s → AwaitsAnswers (serial_front kind) new.owed new
+serial_awaits kind s new e = subst (λ f. AwaitsAnswers (serial_front kind) f.owed f) (sym e) (awaits (serial_front kind) (serial_holds kind) (one_more s.owed))
 
 -- the pins
 

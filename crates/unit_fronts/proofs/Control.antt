@@ -8,9 +8,11 @@ use Rattle.std.proofs.lemmas.Nat.{and_le_r}
 use Rattle.std.proofs.lemmas.Nat.Bits.{bit_at_and, same_from_bits}
 use Rattle.chip_base.specs.Bits.{bit_if}
 use Rattle.soc_words.proofs.Registers.{same_as}
-use Rattle.unit_fronts.specs.Control.{IsWritable, SetsControl, TellsControl, writable}
-use Rattle.unit_fronts.specs.SerialRegisters.{SerialRegisters, serial_control, serial_is_open, has_received}
-use Rattle.unit_fronts.specs.UartFront.{serial_stored}
+use Rattle.unit_fronts.specs.Control.{IsWritable, SetsControl, SetsSpiControl, TellsControl, writable}
+use Rattle.unit_fronts.specs.SerialRegisters.{SerialRegisters, serial_control, serial_control_stored, serial_is_open, has_received}
+use Rattle.unit_fronts.specs.SerialFront.{SerialKind, serial_stored}
+use Rattle.unit_fronts.specs.SpiFront.{spi_kept, spi_kind}
+use Rattle.unit_fronts.specs.UartFront.{uart_kind}
 
 -- the part that a store keeps has the writable bits alone
 pub writable_part : (word : ℕ) → IsWritable (bit_and word writable)
@@ -183,26 +185,114 @@ control_told : (s : SerialRegisters) (word : ℕ) → s.kept ≡ bit_and word wr
 control_told s word e =
     tells_control s _ refl (subst (λ k. IsWritable k) (sym e) (writable_part word)) (subst (λ k. k < 2 ^ 23) (sym e) (small_writable word))
 
-store_data : (s : SerialRegisters) (reg word : ℕ) (control : Bool) → serial_is_open s ≡ true → (reg == 0) ≡ control → reg ≢ 0 → (serial_stored s reg word).kept ≡ s.kept
-store_data s reg word true o p other = absurd (other (same_as reg 0 p))
-store_data s reg word false o p other = rw (o, p) refl
+store_data : (kind : SerialKind) (s : SerialRegisters) (reg word : ℕ) (control entry : Bool) → serial_is_open s ≡ true → (reg == 0) ≡ control → kind.takes reg ≡ entry → reg ≢ 0
+    → (serial_stored kind s reg word).kept ≡ s.kept
+store_data kind s reg word true entry o p t other = absurd (other (same_as reg 0 p))
+store_data kind s reg word false true o p t other = rw (o, p, t) refl
+store_data kind s reg word false false o p t other = rw (o, p, t) refl
 
-at_control : (s : SerialRegisters) (reg word : ℕ) → serial_is_open s ≡ true → reg ≡ 0 → (serial_stored s reg word).kept ≡ bit_and word writable
-at_control s reg word o r = rw (o, r) refl
+at_control : (kind : SerialKind) (s : SerialRegisters) (reg word : ℕ) → serial_is_open s ≡ true → reg ≡ 0 → (serial_stored kind s reg word).kept ≡ kind.kept word
+at_control kind s reg word o r = rw (o, r) refl
 
-sets_by : (s : SerialRegisters) (reg word : ℕ) → serial_is_open s ≡ true → SetsControl s reg word (serial_stored s reg word)
+sets_by : (s : SerialRegisters) (reg word : ℕ) → serial_is_open s ≡ true → SetsControl s reg word (serial_stored uart_kind s reg word)
 sets_by s reg word o = record {
-  enable = λ r. let e = at_control s reg word o r in
-      (control_told (serial_stored s reg word) word e).enable ∙ ap (λ k. bit_at k 0) e ∙ (keeps_fields word).enable;
-  prescaler = λ r. let e = at_control s reg word o r in
-      (control_told (serial_stored s reg word) word e).prescaler ∙ ap (λ k. k / 2 ^ 3 % 2 ^ 3) e ∙ (keeps_fields word).prescaler;
-  baud = λ r. let e = at_control s reg word o r in
-      (control_told (serial_stored s reg word) word e).baud ∙ ap (λ k. k / 2 ^ 6 % 2 ^ 10) e ∙ (keeps_fields word).baud;
-  interrupts = λ r. let e = at_control s reg word o r in
-      (control_told (serial_stored s reg word) word e).interrupts ∙ ap (λ k. bit_at k 22) e ∙ (keeps_fields word).interrupts;
-  elsewhere = λ other. store_data s reg word _ o refl other;
+  enable = λ r. let e = at_control uart_kind s reg word o r in
+      (control_told (serial_stored uart_kind s reg word) word e).enable ∙ ap (λ k. bit_at k 0) e ∙ (keeps_fields word).enable;
+  prescaler = λ r. let e = at_control uart_kind s reg word o r in
+      (control_told (serial_stored uart_kind s reg word) word e).prescaler ∙ ap (λ k. k / 2 ^ 3 % 2 ^ 3) e ∙ (keeps_fields word).prescaler;
+  baud = λ r. let e = at_control uart_kind s reg word o r in
+      (control_told (serial_stored uart_kind s reg word) word e).baud ∙ ap (λ k. k / 2 ^ 6 % 2 ^ 10) e ∙ (keeps_fields word).baud;
+  interrupts = λ r. let e = at_control uart_kind s reg word o r in
+      (control_told (serial_stored uart_kind s reg word) word e).interrupts ∙ ap (λ k. bit_at k 22) e ∙ (keeps_fields word).interrupts;
+  elsewhere = λ other. store_data uart_kind s reg word _ _ o refl refl other;
 }
 
 -- what a store to an open front changes of CTRL
-pub sets_control : (s : SerialRegisters) (reg word : ℕ) (new : SerialRegisters) → new ≡ serial_stored s reg word → serial_is_open s ≡ true → SetsControl s reg word new
+pub sets_control : (s : SerialRegisters) (reg word : ℕ) (new : SerialRegisters) → new ≡ serial_stored uart_kind s reg word → serial_is_open s ≡ true → SetsControl s reg word new
 sets_control s reg word new e o = subst (λ n. SetsControl s reg word n) (sym e) (sets_by s reg word o)
+
+-- the SPI unit's CTRL
+
+-- the part of a word under a mask of writable bits has those alone
+masked_part : (mask word : ℕ) → bit_and mask writable ≡ mask → IsWritable (bit_and word mask)
+masked_part mask word within = same_from_bits (bit_and (bit_and word mask) writable) (bit_and word mask)
+    (λ i. bit_at_and (bit_and word mask) writable i
+    ∙ (ap (λ b. min b (bit_at writable i)) (bit_at_and word mask i) ∙ (under (bit_at word i) (bit_at mask i) (bit_at writable i) (sym (bit_at_and mask writable i) ∙ ap (λ w. bit_at w i) within)
+    ∙ sym (bit_at_and word mask i))))
+  where
+    under : (a b c : ℕ) → min b c ≡ b → min (min a b) c ≡ min a b
+    under a b c e = omega (arith, e)
+
+pub spi_part : (word : ℕ) → IsWritable (spi_kept word)
+spi_part word = masked_part 0x004003f9 word refl
+
+pub spi_small : (word : ℕ) → spi_kept word < 2 ^ 23
+spi_small word = let most : bit_and word 0x004003f9 ≤ 0x004003f9 = and_le_r word 0x004003f9 in omega (arith, most)
+
+spi_bit : (word place : ℕ) → bit_at 0x004003f9 place ≡ 1 → bit_at word place ≤ 1 → bit_at (spi_kept word) place ≡ bit_at word place
+spi_bit word place one low = bit_at_and word 0x004003f9 place ∙ (ap (min (bit_at word place)) one ∙ least (bit_at word place) low)
+  where
+    least : (a : ℕ) → a ≤ 1 → min a 1 ≡ a
+    least a l = omega (arith, l)
+
+spi_none : (word place : ℕ) → bit_at 0x004003f9 place ≡ 0 → bit_at (spi_kept word) place ≡ 0
+spi_none word place zero_there = bit_at_and word 0x004003f9 place ∙ (ap (min (bit_at word place)) zero_there ∙ none (bit_at word place))
+  where
+    none : (a : ℕ) → min a 0 ≡ 0
+    none a = omega arith
+
+-- the fields that a store to the SPI unit's CTRL keeps
+record KeepsSpiFields (word kept : ℕ) : Type 0 where
+  enable : kept / 1 % 2 ≡ word / 1 % 2
+  prescaler : kept / 8 % 8 ≡ word / 8 % 8
+  divider : kept / 64 % 16 ≡ word / 64 % 16
+  above_divider : kept / 1024 % 64 ≡ 0
+  interrupts : kept / 4194304 % 2 ≡ word / 4194304 % 2
+
+four_same : (a b : ℕ) → a / 64 % 2 ≡ b / 64 % 2 → a / 128 % 2 ≡ b / 128 % 2 → a / 256 % 2 ≡ b / 256 % 2 → a / 512 % 2 ≡ b / 512 % 2 → a / 64 % 16 ≡ b / 64 % 16
+four_same a b p q r s = omega (arith, p, q, r, s)
+
+six_none : (a : ℕ) → a / 1024 % 2 ≡ 0 → a / 2048 % 2 ≡ 0 → a / 4096 % 2 ≡ 0 → a / 8192 % 2 ≡ 0 → a / 16384 % 2 ≡ 0 → a / 32768 % 2 ≡ 0 → a / 1024 % 64 ≡ 0
+six_none a p q r s t u = omega (arith, p, q, r, s, t, u)
+
+keeps_spi : (word : ℕ) → KeepsSpiFields word (spi_kept word)
+keeps_spi word = record {
+  enable = spi_bit word 0 refl (omega arith);
+  prescaler = three_same _ word (spi_bit word 3 refl (omega arith)) (spi_bit word 4 refl (omega arith)) (spi_bit word 5 refl (omega arith));
+  divider = four_same _ word (spi_bit word 6 refl (omega arith)) (spi_bit word 7 refl (omega arith)) (spi_bit word 8 refl (omega arith)) (spi_bit word 9 refl (omega arith));
+  above_divider = six_none _ (spi_none word 10 refl) (spi_none word 11 refl) (spi_none word 12 refl) (spi_none word 13 refl) (spi_none word 14 refl) (spi_none word 15 refl);
+  interrupts = spi_bit word 22 refl (omega arith);
+}
+
+spi_told : (s : SerialRegisters) (word : ℕ) → s.kept ≡ spi_kept word → TellsControl s (serial_control s)
+spi_told s word e =
+    tells_control s _ refl (subst (λ k. IsWritable k) (sym e) (spi_part word)) (subst (λ k. k < 2 ^ 23) (sym e) (spi_small word))
+
+lower_ten : (a b : ℕ) → a / 64 % 1024 ≡ b / 64 % 1024 → (a / 64 % 16 ≡ b / 64 % 16) × (a / 1024 % 64 ≡ b / 1024 % 64)
+lower_ten a b e = (omega (arith, e), omega (arith, e))
+
+sets_spi_by : (s : SerialRegisters) (reg word : ℕ) → serial_is_open s ≡ true → SetsSpiControl s reg word (serial_stored spi_kind s reg word)
+sets_spi_by s reg word o = record {
+  enable = λ r. let e = at_control spi_kind s reg word o r in
+      (spi_told (serial_stored spi_kind s reg word) word e).enable ∙ ap (λ k. bit_at k 0) e ∙ (keeps_spi word).enable;
+  prescaler = λ r. let e = at_control spi_kind s reg word o r in
+      (spi_told (serial_stored spi_kind s reg word) word e).prescaler ∙ ap (λ k. k / 2 ^ 3 % 2 ^ 3) e ∙ (keeps_spi word).prescaler;
+  divider = λ r. let e = at_control spi_kind s reg word o r in
+      (lower_ten _ _ (spi_told (serial_stored spi_kind s reg word) word e).baud).0 ∙ ap (λ k. k / 2 ^ 6 % 2 ^ 4) e ∙ (keeps_spi word).divider;
+  above_divider = λ r. let e = at_control spi_kind s reg word o r in
+      (lower_ten _ _ (spi_told (serial_stored spi_kind s reg word) word e).baud).1 ∙ ap (λ k. k / 2 ^ 10 % 2 ^ 6) e ∙ (keeps_spi word).above_divider;
+  interrupts = λ r. let e = at_control spi_kind s reg word o r in
+      (spi_told (serial_stored spi_kind s reg word) word e).interrupts ∙ ap (λ k. bit_at k 22) e ∙ (keeps_spi word).interrupts;
+  elsewhere = λ other. store_data spi_kind s reg word _ _ o refl refl other;
+}
+
+-- what a store to the SPI unit's open front changes of CTRL
+pub sets_spi_control : (s : SerialRegisters) (reg word : ℕ) (new : SerialRegisters) → new ≡ serial_stored spi_kind s reg word → serial_is_open s ≡ true → SetsSpiControl s reg word new
+sets_spi_control s reg word new e o = subst (λ n. SetsSpiControl s reg word n) (sym e) (sets_spi_by s reg word o)
+
+-- a store to CTRL of an open front keeps what its kind keeps
+pub control_is_stored : (kind : SerialKind) (s : SerialRegisters) (reg word : ℕ) (new : SerialRegisters) → serial_is_open s ≡ true → reg ≡ 0
+    → new ≡ serial_control_stored s (kind.kept word) → new ≡ serial_stored kind s reg word
+control_is_stored kind s reg word new o r e =
+    let stored : serial_stored kind s reg word ≡ serial_control_stored s (kind.kept word) = rw (o, r) refl in
+    e ∙ sym stored

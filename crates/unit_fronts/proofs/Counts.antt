@@ -1,11 +1,12 @@
 -- What the calls of a front do to its credits and to the answers that it waits for.
-use Rattle.std.proofs.Common.{◌≡◌, ◌≤◌, ◌<◌, ℕ, ◌+◌, min, Bool, true, false, eqb, ltb, [], ◌∷◌, ◌++◌, length, None, refl, sym, cond, ◌∙◌, arith}
+use Rattle.std.proofs.Common.{◌≡◌, ◌≤◌, ◌<◌, ℕ, ◌+◌, min, Bool, true, false, eqb, ltb, [], ◌∷◌, ◌++◌, length, None, Some, refl, sym, cond, ◌∙◌, arith}
 use Rattle.std.proofs.lemmas.Bool.{true≢false, false≢true}
 use Rattle.std.proofs.lemmas.Bool.Decides.{nat_tests}
+use Rattle.chip_base.specs.declared.message.Down.TheVariants.{Set}
 use Rattle.chip_base.specs.declared.message.Up.{Up}
-use Rattle.chip_base.specs.Messages.{at_data}
+use Rattle.chip_base.specs.Messages.{entry_in}
 use Rattle.unit_fronts.specs.SerialRegisters.{SerialRegisters, serial_is_open, credited, received_by, serial_arrived}
-use Rattle.unit_fronts.specs.UartFront.{serial_loaded, serial_stored, serial_sent}
+use Rattle.unit_fronts.specs.SerialFront.{SerialKind, serial_loaded, serial_stored, serial_sent}
 use Rattle.unit_fronts.specs.Counts.{SpendsCredits, HearsUnit}
 
 is_zero : (a : ℕ) → eqb a 0 ≡ true → a ≡ 0
@@ -14,20 +15,24 @@ is_zero a h = grind (arith, nat_tests)
 not_zero : (a : ℕ) → eqb a 0 ≡ false → 0 < a
 not_zero a h = grind (arith, nat_tests)
 
-spends_by : (s : SerialRegisters) (reg word : ℕ) (open_now control empty : Bool) → serial_is_open s ≡ open_now → eqb reg 0 ≡ control → eqb s.credits 0 ≡ empty
-    → SpendsCredits at_data s (serial_sent s reg word) (serial_stored s reg word)
-spends_by s reg word false b d p q r = rw p record { credits = omega arith; owed = refl }
-spends_by s reg word true true d p q r = rw (p, q) record { credits = omega arith; owed = refl }
-spends_by s reg word true false true p q r =
-    let z : s.credits ≡ 0 = is_zero s.credits r in
-    rw (p, q, r) record { credits = omega arith; owed = refl }
-spends_by s reg word true false false p q r =
-    let z : 0 < s.credits = not_zero s.credits r in
-    rw (p, q, r) record { credits = omega arith; owed = refl }
+spends_by : (kind : SerialKind) (s : SerialRegisters) (reg word : ℕ) (open_now control entry empty : Bool) → kind.takes 0 ≡ false → serial_is_open s ≡ open_now
+    → eqb reg 0 ≡ control → kind.takes reg ≡ entry → eqb s.credits 0 ≡ empty → SpendsCredits kind.takes s (serial_sent kind s reg word) (serial_stored kind s reg word)
+spends_by kind s reg word false b e d z p q t r = rw p record { credits = omega arith; owed = refl }
+spends_by kind s reg word true true e d z p q t r =
+    let none : entry_in kind.takes (Some (Set 0 (kind.kept word))) ≡ 0 = rw z refl in
+    rw (p, q) record { credits = omega (arith, none); owed = refl }
+spends_by kind s reg word true false false d z p q t r = rw (p, q, t) record { credits = omega arith; owed = refl }
+spends_by kind s reg word true false true true z p q t r =
+    let none : s.credits ≡ 0 = is_zero s.credits r in
+    rw (p, q, t, r) record { credits = omega arith; owed = refl }
+spends_by kind s reg word true false true false z p q t r =
+    let some : 0 < s.credits = not_zero s.credits r in
+    let one : entry_in kind.takes (Some (Set reg (kind.entry reg word))) ≡ 1 = rw t refl in
+    rw (p, q, t, r) record { credits = omega (arith, some, one); owed = refl }
 
 -- a store uses a credit exactly where it sends an entry
-pub spends : (s : SerialRegisters) (reg word : ℕ) → SpendsCredits at_data s (serial_sent s reg word) (serial_stored s reg word)
-spends s reg word = spends_by s reg word _ _ _ refl refl refl
+pub spends : (kind : SerialKind) (s : SerialRegisters) (reg word : ℕ) → kind.takes 0 ≡ false → SpendsCredits kind.takes s (serial_sent kind s reg word) (serial_stored kind s reg word)
+spends kind s reg word z = spends_by kind s reg word _ _ _ _ z refl refl refl refl
 
 received-credits : (s : SerialRegisters) (has : Bool) (word : ℕ) → (received_by s has word).credits ≡ s.credits
 received-credits s false word = refl
@@ -73,11 +78,12 @@ hears_by s up false false p q h = rw (p, q) record {
 pub hears : (s : SerialRegisters) (up : Up) → s.credits ≤ 16 → HearsUnit s up (serial_arrived s up)
 hears s up h = hears_by s up _ _ refl refl h
 
-loads_by : (s : SerialRegisters) (reg : ℕ) (open_now control : Bool) → serial_is_open s ≡ open_now → eqb reg 0 ≡ control → SpendsCredits at_data s None (serial_loaded s reg)
-loads_by s reg false b p q = rw p record { credits = omega arith; owed = refl }
-loads_by s reg true true p q = rw (p, q) record { credits = omega arith; owed = refl }
-loads_by s reg true false p q = rw (p, q) record { credits = omega arith; owed = refl }
+loads_by : (takes : ℕ → Bool) (s : SerialRegisters) (reg : ℕ) (open_now at_received : Bool) → serial_is_open s ≡ open_now → eqb reg 4 ≡ at_received
+    → SpendsCredits takes s None (serial_loaded s reg)
+loads_by takes s reg false b p q = rw p record { credits = omega arith; owed = refl }
+loads_by takes s reg true true p q = rw (p, q) record { credits = omega arith; owed = refl }
+loads_by takes s reg true false p q = rw (p, q) record { credits = omega arith; owed = refl }
 
 -- a load changes neither the credits nor the answers that are owed
-pub loads : (s : SerialRegisters) (reg : ℕ) → SpendsCredits at_data s None (serial_loaded s reg)
-loads s reg = loads_by s reg _ _ refl refl
+pub loads : (takes : ℕ → Bool) (s : SerialRegisters) (reg : ℕ) → SpendsCredits takes s None (serial_loaded s reg)
+loads takes s reg = loads_by takes s reg _ _ refl refl

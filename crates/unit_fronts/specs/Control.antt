@@ -37,3 +37,12 @@ pub record SetsControl (old : SerialRegisters) (reg word : ℕ) (new : SerialReg
   pub baud : reg ≡ 0 → serial_control new / 2 ^ 6 % 2 ^ 10 ≡ word / 2 ^ 6 % 2 ^ 10
   pub interrupts : reg ≡ 0 → bit_at (serial_control new) 22 ≡ bit_at word 22
   pub elsewhere : reg ≢ 0 → new.kept ≡ old.kept
+
+-- the same of the SPI unit's CTRL, which has a divider (6 to 9) in place of baud
+pub record SetsSpiControl (old : SerialRegisters) (reg word : ℕ) (new : SerialRegisters) : Type 0 where
+  pub enable : reg ≡ 0 → bit_at (serial_control new) 0 ≡ bit_at word 0
+  pub prescaler : reg ≡ 0 → serial_control new / 2 ^ 3 % 2 ^ 3 ≡ word / 2 ^ 3 % 2 ^ 3
+  pub divider : reg ≡ 0 → serial_control new / 2 ^ 6 % 2 ^ 4 ≡ word / 2 ^ 6 % 2 ^ 4
+  pub above_divider : reg ≡ 0 → serial_control new / 2 ^ 10 % 2 ^ 6 ≡ 0
+  pub interrupts : reg ≡ 0 → bit_at (serial_control new) 22 ≡ bit_at word 22
+  pub elsewhere : reg ≢ 0 → new.kept ≡ old.kept

@@ -8,5 +8,7 @@ pub mod LoadsAfterStore
 pub mod Owed
 pub mod PwmFront
 pub mod ReceiveQueue
+pub mod SerialFront
 pub mod SerialRegisters
+pub mod SpiFront
 pub mod UartFront

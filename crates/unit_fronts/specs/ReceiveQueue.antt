@@ -4,7 +4,7 @@ use Rattle.std.specs.Prelude.{◌≡◌, ◌==◌, ℕ, Bool, true, false, ◌&&
 use Rattle.chip_base.specs.declared.message.Up.{Up}
 use Rattle.unit_fronts.specs.FrontCalls.{FrontCall, LoadFrom, StoreTo, UnitSays, after_calls}
 use Rattle.unit_fronts.specs.SerialRegisters.{SerialRegisters, serial_is_open, has_received}
-use Rattle.unit_fronts.specs.UartFront.{serial_word, serial_after, serial_front}
+use Rattle.unit_fronts.specs.SerialFront.{SerialKind, serial_word, serial_after, serial_front}
 
 -- a received entry comes to an open front
 abbrev pub brings_entry : SerialRegisters → Up → Bool
@@ -22,21 +22,21 @@ entry_queued s (UnitSays up) = if brings_entry s up && has_room s then up.word �
 
 -- the entry that a call gives: a load of DATA gives one where one waits
 abbrev pub entry_given : SerialRegisters → FrontCall → List ℕ
-entry_given s (LoadFrom reg) = if serial_is_open s && not (reg == 0) && has_received s then serial_word s reg ∷ [] else []
+entry_given s (LoadFrom reg) = if serial_is_open s && (reg == 4) && has_received s then serial_word s reg ∷ [] else []
 entry_given s (StoreTo reg word) = []
 entry_given s (UnitSays up) = []
 
-unfoldable pub all_queued : SerialRegisters → List FrontCall → List ℕ
-all_queued s [] = []
-all_queued s (c ∷ cs) = entry_queued s c ++ all_queued (serial_after s c) cs
+unfoldable pub all_queued : SerialKind → SerialRegisters → List FrontCall → List ℕ
+all_queued kind s [] = []
+all_queued kind s (c ∷ cs) = entry_queued s c ++ all_queued kind (serial_after kind s c) cs
 
-unfoldable pub all_given : SerialRegisters → List FrontCall → List ℕ
-all_given s [] = []
-all_given s (c ∷ cs) = entry_given s c ++ all_given (serial_after s c) cs
+unfoldable pub all_given : SerialKind → SerialRegisters → List FrontCall → List ℕ
+all_given kind s [] = []
+all_given kind s (c ∷ cs) = entry_given s c ++ all_given kind (serial_after kind s c) cs
 
 -- whatever is called, the entries that waited and came are those that were given and wait, in the same order
-abbrev pub GivesInOrder : SerialRegisters → Type 0
-GivesInOrder s = (calls : List FrontCall) → s.received ++ all_queued s calls ≡ all_given s calls ++ (after_calls serial_front s calls).received
+abbrev pub GivesInOrder : SerialKind → SerialRegisters → Type 0
+GivesInOrder kind s = (calls : List FrontCall) → s.received ++ all_queued kind s calls ≡ all_given kind s calls ++ (after_calls (serial_front kind) s calls).received
 
 -- an entry that finds sixteen
 abbrev pub loses_entry : SerialRegisters → FrontCall → Bool

@@ -8,10 +8,12 @@ pub mod gpio_front;
 mod owed;
 pub mod pwm_front;
 mod serial_registers;
+pub mod spi_front;
 #[cfg(test)]
 mod tests;
 pub mod uart_front;
 
 pub use gpio_front::GpioFront;
 pub use pwm_front::PwmFront;
+pub use spi_front::SpiFront;
 pub use uart_front::UartFront;

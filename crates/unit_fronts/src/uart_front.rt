@@ -36,7 +36,8 @@ impl UartFront {
     ghost use Rattle.unit_fronts.specs.FrontCalls.{LoadFrom, StoreTo, UnitSays};
     ghost use Rattle.unit_fronts.specs.ReceiveQueue.{GivesInOrder, MarksOverrun};
     ghost use Rattle.unit_fronts.specs.SerialRegisters.{serial_front_reset, serial_is_open, serial_arrived, serial_line, serial_closed};
-    ghost use Rattle.unit_fronts.specs.UartFront.{serial_front, serial_word, serial_loaded, serial_stored, serial_sent};
+    ghost use Rattle.unit_fronts.specs.SerialFront.{serial_front, serial_word, serial_loaded, serial_stored, serial_sent};
+    ghost use Rattle.unit_fronts.specs.UartFront.{uart_kind};
 
     /// The front at power-on: open, with sixteen credits.
     pub fn new() -> UartFront
@@ -55,7 +56,7 @@ impl UartFront {
         ensures front { self.new ≡ serial_loaded self.old reg }
         ensures control { serial_is_open self.old ≡ true → reg ≡ 0 → TellsControl self.old result }
         ensures credits { SpendsCredits at_data self.old None self.new }
-        ensures order { GivesInOrder self.old }
+        ensures order { GivesInOrder uart_kind self.old }
         ensures overrun { MarksOverrun self.old (LoadFrom reg) self.new }
     {
         if !self.registers.is_open() {
@@ -72,8 +73,8 @@ impl UartFront {
     #[tactic(auto, using(crate::proofs::Control::writable_part, crate::proofs::Control::sets_control, crate::proofs::ReceiveQueue::store_marks))]
     pub fn store(&mut self, reg: u8, word: u32) -> Option<Down>
         requires register { (reg ≡ 0) ⊎ (reg ≡ 4) }
-        ensures message { result ≡ serial_sent self.old reg word }
-        ensures front { self.new ≡ serial_stored self.old reg word }
+        ensures message { result ≡ serial_sent uart_kind self.old reg word }
+        ensures front { self.new ≡ serial_stored uart_kind self.old reg word }
         ensures credits { SpendsCredits at_data self.old result self.new }
         ensures overrun { MarksOverrun self.old (StoreTo reg word) self.new }
         ensures control { serial_is_open self.old ≡ true → SetsControl self.old reg word self.new }
@@ -119,7 +120,7 @@ impl UartFront {
     #[tactic(auto, using(crate::proofs::ClosedFront::serial_awaits))]
     pub fn close(&mut self)
         ensures front { self.new ≡ serial_closed self.old }
-        ensures answers { AwaitsAnswers serial_front self.new.owed self.new }
+        ensures answers { AwaitsAnswers (serial_front uart_kind) self.new.owed self.new }
     {
         self.registers.close();
     }
