@@ -1,12 +1,12 @@
 -- What one cycle of the hub does to the fronts of its units.
 use Rattle.std.proofs.Common.{◌≡◌, ◌≤◌, ◌+◌, ◌-◌, ℕ, Bool, true, false, eqb, List, Option, None, Some, Result, Ok, Err, refl, sym, subst, arith}
-use Rattle.std.specs.Prelude.{◌==◌, get_or, ◌&&◌, not, if◌then◌else◌}
+use Rattle.std.specs.Prelude.{get_or, ◌&&◌, not}
 use Rattle.std.proofs.lemmas.Bool.Decides.{nat_tests}
 use Rattle.chip_base.specs.declared.message.Down.{Down}
 use Rattle.chip_base.specs.declared.message.Up.{Up}
 use Rattle.chip_base.specs.declared.chip_unit.ChipUnit.{ChipUnit}
 use Rattle.chip_base.specs.declared.chip_unit.ChipUnit.TheVariants.{Uart0, Uart1, Spi, Gpio, Pwm, Slink, Wdt}
-use Rattle.chip_base.specs.Messages.{at_data, done_in, entry_in, reset_in}
+use Rattle.chip_base.specs.Messages.{at_data, at_either_data, done_in, entry_in, reset_in}
 use Rattle.soc_bus.specs.Map.{admitted}
 use Rattle.soc_bus.specs.Memory.{MemoryState, store_of}
 use Rattle.soc_bus.specs.Rotation.{granted}
@@ -22,13 +22,15 @@ use Rattle.unit_fronts.specs.Counts.{SpendsCredits}
 use Rattle.unit_fronts.specs.SerialRegisters.{SerialRegisters, serial_is_open}
 use Rattle.unit_fronts.specs.GpioFront.{GpioRegisters, gpio_answered, gpio_arrived, gpio_arrived_open, gpio_sent, gpio_stored, gpio_stored_open}
 use Rattle.unit_fronts.specs.PwmFront.{PwmRegisters, pwm_arrived, pwm_sent, pwm_stored}
-use Rattle.unit_fronts.specs.UartFront.{serial_loaded, serial_stored, serial_sent}
+use Rattle.unit_fronts.specs.SerialFront.{SerialKind, serial_loaded, serial_stored, serial_sent}
+use Rattle.unit_fronts.specs.SpiFront.{spi_kind}
+use Rattle.unit_fronts.specs.UartFront.{uart_kind}
 use Rattle.unit_fronts.proofs.Counts.{loads, spends}
 use Rattle.chip_base.specs.UnitTable.{unit_numbered}
 use Rattle.chip_hub.specs.Access.{accessed, accessed_by, in_clint, in_device, in_dma, in_mailbox, in_memory, in_numbered, in_region, in_sysinfo, memory_stored}
 use Rattle.chip_hub.specs.Cycle.{heard, heard_by_gpio, heard_by_pwm, hub_cycle, served, served0, served1, served2, served_to, timed, turn0, turn1, wants_of}
 use Rattle.chip_hub.specs.State.{Fronts, HubState, HubStep}
-use Rattle.chip_hub.specs.Units.{at_gpio, at_pwm, at_uart, fronts_after, messages_in, only_to, silent, unit_down}
+use Rattle.chip_hub.specs.Units.{at_gpio, at_pwm, at_serial, fronts_after, messages_in, only_to, silent, unit_down}
 
 -- a relation between the fronts before an access, the fronts after it and the messages that go down holds of every access
 pub record HoldsOfAccesses (Q : Fronts → Fronts → List (Option Down) → Type 0) : Type 0 where
@@ -161,31 +163,33 @@ pub record ServesPort (takes : ℕ → Bool) (old : SerialRegisters) (down : Opt
 serves_nothing : (takes : ℕ → Bool) (p : SerialRegisters) → ServesPort takes p None p
 serves_nothing takes p = record { credits = record { credits = omega arith; owed = refl }; closed = λ c. refl; no_reset = refl }
 
-uart_load : (p : SerialRegisters) (reg : ℕ) → ServesPort at_data p None (serial_loaded p reg)
-uart_load p reg = record { credits = loads p reg; closed = λ c. refl; no_reset = refl }
+serial_load : (takes : ℕ → Bool) (p : SerialRegisters) (reg : ℕ) → ServesPort takes p None (serial_loaded p reg)
+serial_load takes p reg = record { credits = loads takes p reg; closed = λ c. refl; no_reset = refl }
 
-uart_no_reset : (p : SerialRegisters) (reg word : ℕ) (open_now control empty : Bool) → serial_is_open p ≡ open_now → eqb reg 0 ≡ control → eqb p.credits 0 ≡ empty
-    → reset_in (serial_sent p reg word) ≡ 0
-uart_no_reset p reg word false b d e f g = rw e refl
-uart_no_reset p reg word true true d e f g = rw (e, f) refl
-uart_no_reset p reg word true false true e f g = rw (e, f, g) refl
-uart_no_reset p reg word true false false e f g = rw (e, f, g) refl
+serial_no_reset : (kind : SerialKind) (p : SerialRegisters) (reg word : ℕ) (open_now control entry empty : Bool) → serial_is_open p ≡ open_now → eqb reg 0 ≡ control
+    → kind.takes reg ≡ entry → eqb p.credits 0 ≡ empty → reset_in (serial_sent kind p reg word) ≡ 0
+serial_no_reset kind p reg word false b c d e f t g = rw e refl
+serial_no_reset kind p reg word true true c d e f t g = rw (e, f) refl
+serial_no_reset kind p reg word true false false d e f t g = rw (e, f, t) refl
+serial_no_reset kind p reg word true false true true e f t g = rw (e, f, t, g) refl
+serial_no_reset kind p reg word true false true false e f t g = rw (e, f, t, g) refl
 
-uart_store : (p : SerialRegisters) (reg word : ℕ) → ServesPort at_data p (serial_sent p reg word) (serial_stored p reg word)
-uart_store p reg word = record {
-  credits = spends p reg word;
+serial_store : (kind : SerialKind) → kind.takes 0 ≡ false → (p : SerialRegisters) (reg word : ℕ) → ServesPort kind.takes p (serial_sent kind p reg word) (serial_stored kind p reg word)
+serial_store kind z p reg word = record {
+  credits = spends kind p reg word z;
   closed = λ c. rw c refl;
-  no_reset = uart_no_reset p reg word _ _ _ refl refl refl;
+  no_reset = serial_no_reset kind p reg word _ _ _ _ refl refl refl refl;
 }
 
 -- what an access does to the front that it reaches
-uart_access : (p : SerialRegisters) (r : Request) (reg : ℕ) (store : Option ℕ) → ServesPort at_data p (at_uart p r reg store).down (at_uart p r reg store).front
-uart_access p r reg None = uart_load p reg
-uart_access p r reg (Some value) = uart_store p reg value
+serial_access : (kind : SerialKind) → kind.takes 0 ≡ false → (p : SerialRegisters) (r : Request) (reg : ℕ) (store : Option ℕ)
+    → ServesPort kind.takes p (at_serial kind p r reg store).down (at_serial kind p r reg store).front
+serial_access kind z p r reg None = serial_load kind.takes p reg
+serial_access kind z p r reg (Some value) = serial_store kind z p reg value
 
 -- what an access to a unit's registers does to the front of uart0
 uart0_reached : (f : Fronts) (r : Request) (unit : ChipUnit) (reg : ℕ) → ServesPort at_data f.uart0 (get_or (only_to unit (unit_down f r unit reg)) 0 None) (fronts_after f r unit reg).uart0
-uart0_reached f r Uart0 reg = uart_access f.uart0 r reg r.store
+uart0_reached f r Uart0 reg = serial_access uart_kind refl f.uart0 r reg r.store
 uart0_reached f r Uart1 reg = serves_nothing at_data f.uart0
 uart0_reached f r Spi reg = serves_nothing at_data f.uart0
 uart0_reached f r Gpio reg = serves_nothing at_data f.uart0
@@ -204,7 +208,7 @@ serves_uart0 = cycle_fronts (λ old new downs. ServesPort at_data old.uart0 (get
 -- what an access to a unit's registers does to the front of uart1
 uart1_reached : (f : Fronts) (r : Request) (unit : ChipUnit) (reg : ℕ) → ServesPort at_data f.uart1 (get_or (only_to unit (unit_down f r unit reg)) 1 None) (fronts_after f r unit reg).uart1
 uart1_reached f r Uart0 reg = serves_nothing at_data f.uart1
-uart1_reached f r Uart1 reg = uart_access f.uart1 r reg r.store
+uart1_reached f r Uart1 reg = serial_access uart_kind refl f.uart1 r reg r.store
 uart1_reached f r Spi reg = serves_nothing at_data f.uart1
 uart1_reached f r Gpio reg = serves_nothing at_data f.uart1
 uart1_reached f r Pwm reg = serves_nothing at_data f.uart1
@@ -217,6 +221,24 @@ pub serves_uart1 : (s : HubState) (now : ℕ) (ups : List (Option Up))
 serves_uart1 = cycle_fronts (λ old new downs. ServesPort at_data old.uart1 (get_or downs 1 None) new.uart1) (record {
   quiet = λ f. serves_nothing at_data f.uart1;
   device = λ s r unit reg. uart1_reached s.fronts r unit reg;
+})
+
+-- what an access to a unit's registers does to the front of spi
+spi_reached : (f : Fronts) (r : Request) (unit : ChipUnit) (reg : ℕ) → ServesPort at_either_data f.spi (get_or (only_to unit (unit_down f r unit reg)) 2 None) (fronts_after f r unit reg).spi
+spi_reached f r Uart0 reg = serves_nothing at_either_data f.spi
+spi_reached f r Uart1 reg = serves_nothing at_either_data f.spi
+spi_reached f r Spi reg = serial_access spi_kind refl f.spi r reg r.store
+spi_reached f r Gpio reg = serves_nothing at_either_data f.spi
+spi_reached f r Pwm reg = serves_nothing at_either_data f.spi
+spi_reached f r Slink reg = serves_nothing at_either_data f.spi
+spi_reached f r Wdt reg = serves_nothing at_either_data f.spi
+
+-- what a cycle does to the front of spi, after the arrivals
+pub serves_spi : (s : HubState) (now : ℕ) (ups : List (Option Up))
+    → ServesPort at_either_data (heard s ups).fronts.spi (get_or (hub_cycle s now ups).downs 2 None) (hub_cycle s now ups).hub.fronts.spi
+serves_spi = cycle_fronts (λ old new downs. ServesPort at_either_data old.spi (get_or downs 2 None) new.spi) (record {
+  quiet = λ f. serves_nothing at_either_data f.spi;
+  device = λ s r unit reg. spi_reached s.fronts r unit reg;
 })
 
 -- what an access does to the answers that a front without entries waits for: nothing, and it sends no Reset

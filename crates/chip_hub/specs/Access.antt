@@ -61,7 +61,7 @@ open_bit unit is_open = bit_if (unit_row unit).number is_open
 -- OPEN; a unit that isn't built counts as open
 abbrev pub open_word : Fronts → ℕ
 open_word f =
-    open_bit Uart0 (is_open_at f.uart0.owed) + open_bit Uart1 (is_open_at f.uart1.owed) + open_bit Spi true + open_bit Gpio (is_open_at f.gpio.owed)
+    open_bit Uart0 (is_open_at f.uart0.owed) + open_bit Uart1 (is_open_at f.uart1.owed) + open_bit Spi (is_open_at f.spi.owed) + open_bit Gpio (is_open_at f.gpio.owed)
     + open_bit Pwm (is_open_at f.pwm.owed) + open_bit Slink true + open_bit Wdt true
 
 -- the registers that tell the settings: CLK, IMEM, DMEM and OPEN

@@ -1,10 +1,10 @@
 -- One cycle of the hub: a definition.
-use Rattle.std.specs.Prelude.{◌==◌, ℕ, ◌+◌, Bool, List, ◌++◌, Option, Some, None, if◌then◌else◌, is_some, get_or}
+use Rattle.std.specs.Prelude.{◌==◌, ℕ, ◌+◌, Bool, List, Option, Some, None, if◌then◌else◌, is_some, get_or}
 use Rattle.chip_base.specs.Bits.{bit_if}
 use Rattle.chip_base.specs.declared.message.Up.{Up}
 use Rattle.chip_base.specs.UnitTable.{link_place}
 use Rattle.chip_base.specs.declared.chip_unit.ChipUnit.{ChipUnit}
-use Rattle.chip_base.specs.declared.chip_unit.ChipUnit.TheVariants.{Uart0, Uart1, Gpio, Pwm}
+use Rattle.chip_base.specs.declared.chip_unit.ChipUnit.TheVariants.{Uart0, Uart1, Spi, Gpio, Pwm}
 use Rattle.core_pair.specs.Access.{core_granted}
 use Rattle.core_pair.specs.Clint.{clint_ticked}
 use Rattle.core_pair.specs.Core.{CoreState, started, wanted_in}
@@ -48,6 +48,7 @@ heard s ups = record s {
   fronts = record {
     uart0 = heard_by s.fronts.uart0 (arrival_of Uart0 ups);
     uart1 = heard_by s.fronts.uart1 (arrival_of Uart1 ups);
+    spi = heard_by s.fronts.spi (arrival_of Spi ups);
     gpio = heard_by_gpio s.fronts.gpio (arrival_of Gpio ups);
     pwm = heard_by_pwm s.fronts.pwm (arrival_of Pwm ups);
   };

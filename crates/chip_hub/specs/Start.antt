@@ -1,5 +1,5 @@
 -- The hub at power-on: a definition.
-use Rattle.std.specs.Prelude.{◌==◌, ℕ, ◌+◌, List, ◌++◌, drop, length, if◌then◌else◌}
+use Rattle.std.specs.Prelude.{ℕ, List, ◌++◌, drop, length}
 use Rattle.chip_base.specs.Settings.{Values}
 use Rattle.core_pair.specs.Clint.{reset_clint}
 use Rattle.core_pair.specs.Core.{reset_core}
@@ -23,5 +23,5 @@ hub_start v image = record {
   dma = dma_reset;
   clint = reset_clint;
   mailbox = reset_mailbox;
-  fronts = record { uart0 = serial_front_reset 0; uart1 = serial_front_reset 0; gpio = gpio_front_reset 0; pwm = pwm_front_reset 0 };
+  fronts = record { uart0 = serial_front_reset 0; uart1 = serial_front_reset 0; spi = serial_front_reset 0; gpio = gpio_front_reset 0; pwm = pwm_front_reset 0 };
 }

@@ -15,6 +15,7 @@ use Rattle.unit_fronts.specs.PwmFront.{PwmRegisters}
 pub record Fronts : Type 0 where
   pub uart0 : SerialRegisters
   pub uart1 : SerialRegisters
+  pub spi : SerialRegisters
   pub gpio : GpioRegisters
   pub pwm : PwmRegisters
 

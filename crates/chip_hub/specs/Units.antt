@@ -10,7 +10,9 @@ use Rattle.soc_bus.specs.declared.access.Request.{Request}
 use Rattle.unit_fronts.specs.GpioFront.{GpioRegisters, gpio_word, gpio_stored, gpio_sent}
 use Rattle.unit_fronts.specs.SerialRegisters.{SerialRegisters}
 use Rattle.unit_fronts.specs.PwmFront.{PwmRegisters, pwm_word, pwm_stored, pwm_sent}
-use Rattle.unit_fronts.specs.UartFront.{serial_word, serial_loaded, serial_stored, serial_sent}
+use Rattle.unit_fronts.specs.SerialFront.{SerialKind, serial_word, serial_loaded, serial_stored, serial_sent}
+use Rattle.unit_fronts.specs.SpiFront.{spi_kind}
+use Rattle.unit_fronts.specs.UartFront.{uart_kind}
 use Rattle.chip_hub.specs.Parts.{part_of_word}
 use Rattle.chip_hub.specs.State.{Fronts}
 
@@ -20,9 +22,9 @@ pub record AtFront (F : Type 0) : Type 0 where
   pub word : ℕ
   pub down : Option Down
 
-abbrev pub at_uart : SerialRegisters → Request → ℕ → Option ℕ → AtFront SerialRegisters
-at_uart f r reg None = record { front = serial_loaded f reg; word = part_of_word r (serial_word f reg); down = None }
-at_uart f r reg (Some value) = record { front = serial_stored f reg value; word = 0; down = serial_sent f reg value }
+abbrev pub at_serial : SerialKind → SerialRegisters → Request → ℕ → Option ℕ → AtFront SerialRegisters
+at_serial kind f r reg None = record { front = serial_loaded f reg; word = part_of_word r (serial_word f reg); down = None }
+at_serial kind f r reg (Some value) = record { front = serial_stored kind f reg value; word = 0; down = serial_sent kind f reg value }
 
 abbrev pub at_gpio : GpioRegisters → Request → ℕ → Option ℕ → AtFront GpioRegisters
 at_gpio f r reg None = record { front = f; word = part_of_word r (gpio_word f reg); down = None }
@@ -34,31 +36,31 @@ at_pwm f r reg (Some value) = record { front = pwm_stored f reg value; word = 0;
 
 -- the fronts after an access to a unit's registers
 abbrev pub fronts_after : Fronts → Request → ChipUnit → ℕ → Fronts
-fronts_after f r Uart0 reg = record f { uart0 = (at_uart f.uart0 r reg r.store).front }
-fronts_after f r Uart1 reg = record f { uart1 = (at_uart f.uart1 r reg r.store).front }
+fronts_after f r Uart0 reg = record f { uart0 = (at_serial uart_kind f.uart0 r reg r.store).front }
+fronts_after f r Uart1 reg = record f { uart1 = (at_serial uart_kind f.uart1 r reg r.store).front }
+fronts_after f r Spi reg = record f { spi = (at_serial spi_kind f.spi r reg r.store).front }
 fronts_after f r Gpio reg = record f { gpio = (at_gpio f.gpio r reg r.store).front }
 fronts_after f r Pwm reg = record f { pwm = (at_pwm f.pwm r reg r.store).front }
-fronts_after f r Spi reg = f
 fronts_after f r Slink reg = f
 fronts_after f r Wdt reg = f
 
 -- the answer to its master; the registers of a unit that isn't built answer no access
 abbrev pub unit_answer : Fronts → Request → ChipUnit → ℕ → Result ℕ BusFault
-unit_answer f r Uart0 reg = Ok (at_uart f.uart0 r reg r.store).word
-unit_answer f r Uart1 reg = Ok (at_uart f.uart1 r reg r.store).word
+unit_answer f r Uart0 reg = Ok (at_serial uart_kind f.uart0 r reg r.store).word
+unit_answer f r Uart1 reg = Ok (at_serial uart_kind f.uart1 r reg r.store).word
+unit_answer f r Spi reg = Ok (at_serial spi_kind f.spi r reg r.store).word
 unit_answer f r Gpio reg = Ok (at_gpio f.gpio r reg r.store).word
 unit_answer f r Pwm reg = Ok (at_pwm f.pwm r reg r.store).word
-unit_answer f r Spi reg = Err Unmapped
 unit_answer f r Slink reg = Err Unmapped
 unit_answer f r Wdt reg = Err Unmapped
 
 -- the message that goes down to the unit
 abbrev pub unit_down : Fronts → Request → ChipUnit → ℕ → Option Down
-unit_down f r Uart0 reg = (at_uart f.uart0 r reg r.store).down
-unit_down f r Uart1 reg = (at_uart f.uart1 r reg r.store).down
+unit_down f r Uart0 reg = (at_serial uart_kind f.uart0 r reg r.store).down
+unit_down f r Uart1 reg = (at_serial uart_kind f.uart1 r reg r.store).down
+unit_down f r Spi reg = (at_serial spi_kind f.spi r reg r.store).down
 unit_down f r Gpio reg = (at_gpio f.gpio r reg r.store).down
 unit_down f r Pwm reg = (at_pwm f.pwm r reg r.store).down
-unit_down f r Spi reg = None
 unit_down f r Slink reg = None
 unit_down f r Wdt reg = None
 

@@ -1,5 +1,5 @@
 -- What a hub shows of its memories, its harts and its boot: a definition.
-use Rattle.std.specs.Prelude.{◌==◌, ℕ, ◌+◌, ◌++◌, Option, Some, None, Result, Ok, Err, if◌then◌else◌}
+use Rattle.std.specs.Prelude.{◌==◌, ℕ, Option, Some, None, Result, Ok, Err, if◌then◌else◌}
 use Rattle.chip_base.specs.declared.boot.BootView.{BootView}
 use Rattle.chip_base.specs.declared.boot.BootView.TheVariants.{Raw}
 use Rattle.chip_base.specs.declared.hart.HartView.{HartView}

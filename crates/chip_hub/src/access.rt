@@ -11,7 +11,7 @@ ghost use Rattle.chip_hub.specs.Units.{only_to, silent};
 
 use crate::hub::Hub;
 use crate::parts::{offset_in, part_of_word};
-use crate::units::{AtFront, access_gpio, access_pwm, access_uart};
+use crate::units::{AtFront, access_gpio, access_pwm, access_spi, access_uart};
 use chip_base::bits::bit_if;
 use chip_base::{ChipUnit, Down};
 use soc_bus::{BusFault, Region, Request, admit};
@@ -150,7 +150,7 @@ impl Hub {
     {
         open_bit(ChipUnit::Uart0, self.uart0.is_open())
             + open_bit(ChipUnit::Uart1, self.uart1.is_open())
-            + open_bit(ChipUnit::Spi, true)
+            + open_bit(ChipUnit::Spi, self.spi.is_open())
             + open_bit(ChipUnit::Gpio, self.gpio.is_open())
             + open_bit(ChipUnit::Pwm, self.pwm.is_open())
             + open_bit(ChipUnit::Slink, true)
@@ -187,9 +187,9 @@ impl Hub {
         match unit {
             ChipUnit::Uart0 => at_unit(unit, access_uart(&mut self.uart0, request, reg)),
             ChipUnit::Uart1 => at_unit(unit, access_uart(&mut self.uart1, request, reg)),
+            ChipUnit::Spi => at_unit(unit, access_spi(&mut self.spi, request, reg)),
             ChipUnit::Gpio => at_unit(unit, access_gpio(&mut self.gpio, request, reg)),
             ChipUnit::Pwm => at_unit(unit, access_pwm(&mut self.pwm, request, reg)),
-            ChipUnit::Spi => refused(BusFault::Unmapped),
             ChipUnit::Slink => refused(BusFault::Unmapped),
             ChipUnit::Wdt => refused(BusFault::Unmapped),
         }

@@ -25,6 +25,9 @@ impl Hub {
         if let Some(up) = ups[ChipUnit::Uart1.place()] {
             self.uart1.arrive(up);
         }
+        if let Some(up) = ups[ChipUnit::Spi.place()] {
+            self.spi.arrive(up);
+        }
         if let Some(up) = ups[ChipUnit::Gpio.place()] {
             self.gpio.arrive(up);
         }
@@ -41,6 +44,7 @@ impl Hub {
         fast_bit(HubPart::Dma.fast_line(), self.dma.line())
             + fast_bit(ChipUnit::Uart0.fast_line(), self.uart0.line())
             + fast_bit(ChipUnit::Uart1.fast_line(), self.uart1.line())
+            + fast_bit(ChipUnit::Spi.fast_line(), self.spi.line())
             + fast_bit(ChipUnit::Gpio.fast_line(), self.gpio.line())
     }
 

@@ -4,7 +4,7 @@ use core_pair::{Clint, Core, Mailbox};
 use dma_unit::Dma;
 use soc_bus::{Arbiter, Memory};
 use std::marker::Model;
-use unit_fronts::{GpioFront, PwmFront, UartFront};
+use unit_fronts::{GpioFront, PwmFront, SpiFront, UartFront};
 
 /// Two cores, the DMA, the memories, the bus and the fronts of the units.
 #[derive(Drop)]
@@ -19,6 +19,7 @@ pub struct Hub {
     pub(crate) mailbox: Mailbox,
     pub(crate) uart0: UartFront,
     pub(crate) uart1: UartFront,
+    pub(crate) spi: SpiFront,
     pub(crate) gpio: GpioFront,
     pub(crate) pwm: PwmFront,
 }
@@ -37,6 +38,6 @@ impl Model for Hub {
       dma = h.dma;
       clint = h.clint;
       mailbox = h.mailbox;
-      fronts = record { uart0 = h.uart0; uart1 = h.uart1; gpio = h.gpio; pwm = h.pwm };
+      fronts = record { uart0 = h.uart0; uart1 = h.uart1; spi = h.spi; gpio = h.gpio; pwm = h.pwm };
     } };
 }

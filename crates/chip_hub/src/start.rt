@@ -10,7 +10,7 @@ use core_pair::{Clint, Core, Mailbox};
 use dma_unit::Dma;
 use soc_bus::{Arbiter, Memory};
 use std::alloc::Global;
-use unit_fronts::{GpioFront, PwmFront, UartFront};
+use unit_fronts::{GpioFront, PwmFront, SpiFront, UartFront};
 
 /// Whether a file can be what core 0 begins with in the boot mode `Raw`, the only one that may be asked about: exactly where it
 /// has at most `room` bytes, the size of IMEM.
@@ -46,6 +46,7 @@ impl Hub {
             mailbox: Mailbox::new(),
             uart0: UartFront::new(),
             uart1: UartFront::new(),
+            spi: SpiFront::new(),
             gpio: GpioFront::new(),
             pwm: PwmFront::new(),
         })

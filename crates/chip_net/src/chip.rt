@@ -6,6 +6,7 @@ ghost use Rattle.chip_base.specs.declared.boot.Boot.TheVariants.{Raw};
 ghost use Rattle.chip_hub.specs.Views.{boot_view, csr_at, hart_view, word_at};
 ghost use Rattle.soc_bus.specs.Memory.{IsSize, held_by, place_of};
 ghost use Rattle.chip_whole.specs.Chip.{Board, ChipState, after, events_of, start, tick};
+ghost use Rattle.spi_flash.specs.Flash.{byte_of, flash_at};
 ghost use Rattle.chip_whole.specs.Standing.{ChipStands};
 
 use crate::units::Units;
@@ -176,6 +177,24 @@ impl Chip {
         ensures { (board : Board) (s : ChipState) → ⟦<Chip as Standing>⟧.stands board self.now s → result ≡ csr_at s.hub hart addr }
     {
         self.hub.csr(hart, addr)
+    }
+
+    /// The byte of the flash at an address; an operation under way isn't done yet. None exactly where no flash is fitted or the address
+    /// is past its end.
+    #[tactic(auto, unfolding(chip_whole::specs::Standing::ChipStands))]
+    pub fn flash(&self, at: u32) -> Option<u8>
+        ensures { (board : Board) (s : ChipState) → ⟦<Chip as Standing>⟧.stands board self.now s → result ≡ flash_at s.units.spi.unit.flash at }
+    {
+        self.units.flash(at)
+    }
+
+    /// An address, at most 8,388,608, from which on each byte of the flash is ff.
+    #[tactic(auto, unfolding(chip_whole::specs::Standing::ChipStands))]
+    pub fn flash_end(&self) -> u32
+        ensures bytes { (board : Board) (s : ChipState) → ⟦<Chip as Standing>⟧.stands board self.now s → (i : ℕ) → result ≤ i → byte_of s.units.spi.unit.flash.cells i ≡ 255 }
+        ensures to { result ≤ 2 ^ 23 }
+    {
+        self.units.flash_end()
     }
 
     /// How core 0 began.

@@ -1,12 +1,15 @@
 //! The units and their links.
-ghost use Rattle.std.specs.Prelude.{◌≡◌, ◌≤◌, ◌<◌, ◌+◌, ◌^◌, suc, length, List, IfOk};
+ghost use Rattle.std.specs.Prelude.{◌≡◌, ◌≤◌, ◌<◌, ◌+◌, ◌^◌, ℕ, suc, length, List, IfOk};
 ghost use Rattle.std.specs.List.{list_any};
 ghost use Rattle.chip_base.specs.Settings.{values_of};
+ghost use Rattle.spi_flash.specs.Flash.{byte_of, flash_at};
 ghost use Rattle.chip_whole.specs.Chip.{Board, arriving, image_for, is_image, told_by_units, units_after, units_start};
 
 use crate::links::Links;
 use board_units::{Gpio, Pwm};
 use chip_base::{Bytes, Cycle, Down, Event, NoMemory, Script, Setup, Steps0, UartStep, Up};
+use spi_flash::Spi;
+use spi_flash::array::SIZE;
 use std::alloc::Global;
 use std::marker::Model;
 use uart_lane::Uart;
@@ -18,6 +21,8 @@ pub(crate) struct Units {
     uart0_links: Links,
     uart1: Uart,
     uart1_links: Links,
+    spi: Spi,
+    spi_links: Links,
     gpio: Gpio,
     gpio_links: Links,
     pwm: Pwm,
@@ -35,13 +40,14 @@ impl Model for Units {
       units = record {
         uart0 = record { unit = u.uart0; down = u.uart0_links.down; up = u.uart0_links.up };
         uart1 = record { unit = u.uart1; down = u.uart1_links.down; up = u.uart1_links.up };
+        spi = record { unit = u.spi; down = u.spi_links.down; up = u.spi_links.up };
         gpio = record { unit = u.gpio; down = u.gpio_links.down; up = u.gpio_links.up };
         pwm = record { unit = u.pwm; down = u.pwm_links.down; up = u.pwm_links.up };
       };
       cycle = u.cycle;
     } };
 
-    ghost invariant = { λ u. (u.uart0_links.cycle ≡ u.cycle) × (u.uart1_links.cycle ≡ u.cycle) × (u.gpio_links.cycle ≡ u.cycle)
+    ghost invariant = { λ u. (u.uart0_links.cycle ≡ u.cycle) × (u.uart1_links.cycle ≡ u.cycle) × (u.spi_links.cycle ≡ u.cycle) × (u.gpio_links.cycle ≡ u.cycle)
         × (u.pwm_links.cycle ≡ u.cycle) };
 }
 
@@ -86,13 +92,17 @@ impl Units {
         let image1 = image_for(alloc, &script.uart1, image)?;
         let uart0_links = Links::new(alloc, setup, 0)?;
         let uart1_links = Links::new(alloc, setup, 1)?;
+        let spi_links = Links::new(alloc, setup, 2)?;
         let gpio_links = Links::new(alloc, setup, 3)?;
         let pwm_links = Links::new(alloc, setup, 4)?;
+        let spi = Spi::new(alloc, setup.flash)?;
         Ok(Units {
             uart0: Uart::new(1, script.uart0, image0),
             uart0_links,
             uart1: Uart::new(2, script.uart1, image1),
             uart1_links,
+            spi,
+            spi_links,
             gpio: Gpio::new(script.pins),
             gpio_links,
             pwm: Pwm::new(),
@@ -115,7 +125,7 @@ impl Units {
         [
             self.uart0_links.at_front(),
             self.uart1_links.at_front(),
-            None,
+            self.spi_links.at_front(),
             self.gpio_links.at_front(),
             self.pwm_links.at_front(),
             None,
@@ -132,13 +142,34 @@ impl Units {
     {
         let uart0 = self.uart0.cycle(self.cycle, self.uart0_links.at_unit());
         let uart1 = self.uart1.cycle(self.cycle, self.uart1_links.at_unit());
+        let spi = self.spi.cycle(self.cycle, self.spi_links.at_unit());
         let gpio = self.gpio.cycle(self.cycle, self.gpio_links.at_unit());
         let pwm = self.pwm.cycle(self.cycle, self.pwm_links.at_unit());
         self.uart0_links.step(downs[0], uart0.up);
         self.uart1_links.step(downs[1], uart1.up);
+        self.spi_links.step(downs[2], spi.up);
         self.gpio_links.step(downs[3], gpio.up);
         self.pwm_links.step(downs[4], pwm.up);
         self.cycle += 1;
         [uart0.event, uart1.event, gpio.event, pwm.event]
+    }
+
+    /// The byte of the flash at an address. None exactly where no flash is fitted or the address is past its end.
+    pub(crate) fn flash(&self, at: u32) -> Option<u8>
+        ensures { result ≡ flash_at self.now.units.spi.unit.flash at }
+    {
+        if self.spi.is_fitted() && at < SIZE {
+            Some(self.spi.flash(at))
+        } else {
+            None
+        }
+    }
+
+    /// An address from which on each byte of the flash is ff.
+    pub(crate) fn flash_end(&self) -> u32
+        ensures bytes { (i : ℕ) → result ≤ i → byte_of self.now.units.spi.unit.flash.cells i ≡ 255 }
+        ensures to { result ≤ 2 ^ 23 }
+    {
+        self.spi.flash_end()
     }
 }

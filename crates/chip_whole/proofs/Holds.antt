@@ -1,18 +1,21 @@
 -- What holds in every state that the chip reaches.
 use Rattle.std.proofs.Common.{◌≡◌, ◌≤◌, ◌<◌, ℕ, zero, suc, ◌+◌, List, [], ◌∷◌, ◌++◌, length, Option, refl, subst, ap, sym, ◌∙◌, arith, append-nil}
-use Rattle.std.specs.Prelude.{true, get_or}
+use Rattle.std.specs.Prelude.{Bool, true, get_or}
 use Rattle.std.specs.List.{list_all}
 use Rattle.std.proofs.lemmas.Bool.Decides.{nat_tests}
-use Rattle.chip_base.specs.Messages.{at_data, credit_in, entry_in}
+use Rattle.chip_base.specs.Messages.{at_data, at_either_data, credit_in, entry_in}
 use Rattle.chip_base.specs.Ranges.{is_delay}
 use Rattle.chip_base.specs.Settings.{Values, values_of}
 use Rattle.chip_base.specs.declared.message.Down.{Down}
+use Rattle.chip_base.specs.declared.message.Up.{Up}
 use Rattle.chip_base.specs.declared.script.Script.{Script}
 use Rattle.chip_base.specs.declared.setup.Setup.{Setup}
 use Rattle.board_units.specs.GpioCycle.{gpio_cycle}
 use Rattle.board_units.specs.PwmCycle.{pwm_cycle}
 use Rattle.chip_hub.specs.Start.{hub_start}
-use Rattle.chip_hub.proofs.Fronts.{gpio_hears, pwm_hears, serves_gpio, serves_pwm, serves_uart0, serves_uart1}
+use Rattle.chip_hub.proofs.Fronts.{gpio_hears, pwm_hears, serves_gpio, serves_pwm, serves_spi, serves_uart0, serves_uart1}
+use Rattle.spi_flash.specs.SpiCycle.{SpiState, spi_cycle}
+use Rattle.spi_flash.proofs.SpiCounts.{counts_queue, keeps_entries}
 use Rattle.soc_words.specs.Link.{link_first}
 use Rattle.uart_lane.specs.Counts.{bytes_out}
 use Rattle.uart_lane.specs.Cycle.{uart_cycle}
@@ -21,7 +24,7 @@ use Rattle.uart_lane.proofs.Counts.{keeps_count}
 use Rattle.uart_lane.proofs.Order.{keeps_order}
 use Rattle.unit_fronts.specs.SerialRegisters.{SerialRegisters}
 use Rattle.chip_whole.specs.Chip.{Board, ChipState, after, arriving, delay_of, start, tick, told_by_units}
-use Rattle.chip_whole.specs.Credits.{CreditsHold, HasSixteen, LosesNone, ServesUnit, UartLosesNone, count_on, waiting_in}
+use Rattle.chip_whole.specs.Credits.{CreditsHold, HasSixteen, LosesNone, ServesUnit, SpiLosesNone, UartLosesNone, count_on, queued_in, waiting_in}
 use Rattle.chip_whole.specs.Joined.{Joined, event_of}
 use Rattle.chip_whole.specs.Order.{AreOrderedBefore}
 use Rattle.chip_whole.specs.Sent.{SendsInOrder, bytes_down, resets_down, sent_down, told_by}
@@ -38,6 +41,7 @@ unfolding tick
 credits_tick board c h = record {
   uart0 = serves_after at_data waiting_in uart_cycle _ _ c.units.uart0 c.cycle _ (serves_uart0 c.hub c.cycle (arriving c.units)) (λ s. keeps_count s c.cycle) h.uart0;
   uart1 = serves_after at_data waiting_in uart_cycle _ _ c.units.uart1 c.cycle _ (serves_uart1 c.hub c.cycle (arriving c.units)) (λ s. keeps_count s c.cycle) h.uart1;
+  spi = serves_after at_either_data queued_in spi_cycle _ _ c.units.spi c.cycle _ (serves_spi c.hub c.cycle (arriving c.units)) (λ s. counts_queue s c.cycle) h.spi;
   gpio = awaits_after gpio_cycle _ _ _ c.units.gpio c.cycle _ (gpio_hears c.hub.fronts.gpio _) (serves_gpio c.hub c.cycle (arriving c.units)) (λ s. gpio_answers s c.cycle) h.gpio;
   pwm = awaits_after pwm_cycle _ _ _ c.units.pwm c.cycle _ (pwm_hears c.hub.fronts.pwm _) (serves_pwm c.hub c.cycle (arriving c.units)) (λ s. pwm_answers s c.cycle) h.pwm;
 }
@@ -60,6 +64,7 @@ unfolding start hub_start
 start_credits v image script d = record {
   uart0 = serves_start at_data waiting_in _ _ (delay_fits v 0 d (omega arith)) refl;
   uart1 = serves_start at_data waiting_in _ _ (delay_fits v 1 d (omega arith)) refl;
+  spi = serves_start at_either_data queued_in _ _ (delay_fits v 2 d (omega arith)) refl;
   gpio = awaits_start _ _ (delay_fits v 3 d (omega arith));
   pwm = awaits_start _ _ (delay_fits v 4 d (omega arith));
 }
@@ -67,20 +72,26 @@ start_credits v image script d = record {
 credits_after : (board : Board) (c : ChipState) (n : ℕ) → CreditsHold c → CreditsHold (after board c n)
 credits_after board c n = kept_after board CreditsHold (credits_tick board) c n
 
--- where the unit has room for the entries that come, none is lost
+-- a unit has room for the entry that comes
+room_in : (takes : ℕ → Bool) (p : SerialRegisters) (downs : List (Option Down)) (entries : ℕ) (ups : List (Option Up)) → HasSixteen takes p downs entries ups
+    → entries + entry_in takes (link_first downs) ≤ 16
+room_in takes p [] entries ups h = let small : 0 + entries + count_on credit_in ups ≤ 16 = h.room in omega (arith, small)
+room_in takes p (d ∷ downs) entries ups h =
+    let small : entry_in takes d + count_on (entry_in takes) downs + entries + count_on credit_in ups ≤ 16 = h.room in
+    omega (arith, small)
+
+-- so none is lost
 uart_loses_none : (p : SerialRegisters) (j : Joined UartState) (now : ℕ) → ServesUnit at_data p waiting_in j → UartLosesNone j.unit now (link_first j.down)
-uart_loses_none p j now h r = (keeps_order j.unit now (link_first j.down)).bytes r (by_line j.down h.sixteen)
-  where
-    by_line : (downs : List (Option Down)) → HasSixteen at_data p downs (length j.unit.fifo) j.up → length j.unit.fifo + entry_in at_data (link_first downs) ≤ 16
-    by_line [] h = let small : 0 + length j.unit.fifo + count_on credit_in j.up ≤ 16 = h.room in omega (arith, small)
-    by_line (d ∷ downs) h =
-        let small : entry_in at_data d + count_on (entry_in at_data) downs + length j.unit.fifo + count_on credit_in j.up ≤ 16 = h.room in
-        omega (arith, small)
+uart_loses_none p j now h r = (keeps_order j.unit now (link_first j.down)).bytes r (room_in at_data p j.down (length j.unit.fifo) j.up h.sixteen)
+
+spi_loses_none : (p : SerialRegisters) (j : Joined SpiState) (now : ℕ) → ServesUnit at_either_data p queued_in j → SpiLosesNone j.unit now (link_first j.down)
+spi_loses_none p j now h r = keeps_entries j.unit now (link_first j.down) r (room_in at_either_data p j.down (length j.unit.queue) j.up h.sixteen)
 
 none_lost : (c : ChipState) → CreditsHold c → LosesNone c
 none_lost c h = record {
   uart0 = uart_loses_none c.hub.fronts.uart0 c.units.uart0 c.cycle h.uart0;
   uart1 = uart_loses_none c.hub.fronts.uart1 c.units.uart1 c.cycle h.uart1;
+  spi = spi_loses_none c.hub.fronts.spi c.units.spi c.cycle h.spi;
 }
 
 -- events
@@ -107,7 +118,7 @@ start_numbers : (v : Values) (image : List ℕ) (script : Script) → NumbersSta
 unfolding start
 start_numbers v image script = record { uart0 = refl; uart1 = refl }
 
--- the numbers of the units that are built
+-- the numbers of the units that tell of events
 abbrev built : List ℕ
 built = 1 ∷ 2 ∷ 4 ∷ 5 ∷ []
 

@@ -15,6 +15,7 @@ use Rattle.chip_base.specs.Settings.{Values}
 use Rattle.chip_hub.specs.Cycle.{hub_cycle}
 use Rattle.chip_hub.specs.Start.{hub_start}
 use Rattle.chip_hub.specs.State.{HubState, HubStep}
+use Rattle.spi_flash.specs.SpiCycle.{SpiState, spi_cycle, spi_start}
 use Rattle.soc_words.specs.Link.{link_first}
 use Rattle.uart_lane.specs.Cycle.{uart_cycle}
 use Rattle.uart_lane.specs.State.{UartState, uart_start}
@@ -32,25 +33,28 @@ bare = tt
 pub record Units : Type 0 where
   pub uart0 : Joined UartState
   pub uart1 : Joined UartState
+  pub spi : Joined SpiState
   pub gpio : Joined GpioState
   pub pwm : Joined PwmState
 
 -- what arrives at the hub in this cycle, by unit
 abbrev pub arriving : Units → List (Option Up)
-arriving u = link_first u.uart0.up ∷ link_first u.uart1.up ∷ None ∷ link_first u.gpio.up ∷ link_first u.pwm.up ∷ None ∷ None ∷ []
+arriving u = link_first u.uart0.up ∷ link_first u.uart1.up ∷ link_first u.spi.up ∷ link_first u.gpio.up ∷ link_first u.pwm.up ∷ None ∷ None ∷ []
 
 -- the units after a cycle in which this was sent down, by unit
 abbrev pub units_after : Board → Units → ℕ → List (Option Down) → Units
 units_after board u now downs = record {
   uart0 = joined_after uart_cycle u.uart0 now (get_or downs 0 None);
   uart1 = joined_after uart_cycle u.uart1 now (get_or downs 1 None);
+  spi = joined_after spi_cycle u.spi now (get_or downs 2 None);
   gpio = joined_after gpio_cycle u.gpio now (get_or downs 3 None);
   pwm = joined_after pwm_cycle u.pwm now (get_or downs 4 None);
 }
 
--- what happens at the chip's edge in a cycle, by unit
+-- what happens at the chip's edge in a cycle, by unit; the SPI unit tells nothing
 abbrev pub told_by_units : Board → Units → ℕ → List (Option Event)
-told_by_units board u now = event_of uart_cycle u.uart0 now ∷ event_of uart_cycle u.uart1 now ∷ event_of gpio_cycle u.gpio now ∷ event_of pwm_cycle u.pwm now ∷ []
+told_by_units board u now =
+    event_of uart_cycle u.uart0 now ∷ event_of uart_cycle u.uart1 now ∷ event_of gpio_cycle u.gpio now ∷ event_of pwm_cycle u.pwm now ∷ []
 
 -- those events that there are
 abbrev pub events_of : List (Option Event) → List Event
@@ -101,6 +105,7 @@ abbrev pub units_start : Values → List ℕ → Script → Units
 units_start v image script = record {
   uart0 = joined_start (uart_start 1 script.uart0 (image_for script.uart0 image)) (delay_of v 0);
   uart1 = joined_start (uart_start 2 script.uart1 (image_for script.uart1 image)) (delay_of v 1);
+  spi = joined_start (spi_start v.flash) (delay_of v 2);
   gpio = joined_start (gpio_start script.pins) (delay_of v 3);
   pwm = joined_start pwm_reset (delay_of v 4);
 }

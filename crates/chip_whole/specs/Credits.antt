@@ -1,9 +1,11 @@
 -- A law over definitions: where the sixteen credits of a front are, and the answers that it waits for.
-use Rattle.std.specs.Prelude.{◌≡◌, ◌≤◌, ℕ, ◌+◌, Bool, List, [], ◌∷◌, ◌++◌, Option, length, true, false}
+use Rattle.std.specs.Prelude.{◌≡◌, ◌≤◌, ℕ, ◌+◌, Bool, List, [], ◌∷◌, ◌++◌, drop, Option, length, true, false}
 use Rattle.chip_base.specs.declared.message.Down.{Down}
 use Rattle.chip_base.specs.declared.message.Up.{Up}
-use Rattle.chip_base.specs.Messages.{at_data, entry_in, credit_in, reset_in, done_in}
+use Rattle.chip_base.specs.Messages.{at_data, at_either_data, entry_in, credit_in, reset_in, done_in}
 use Rattle.unit_fronts.specs.SerialRegisters.{SerialRegisters, serial_is_open}
+use Rattle.spi_flash.specs.SpiCounts.{entries_in}
+use Rattle.spi_flash.specs.SpiCycle.{SpiState, spi_cycle}
 use Rattle.soc_words.specs.Link.{link_first}
 use Rattle.uart_lane.specs.Counts.{bytes_in, bytes_out}
 use Rattle.uart_lane.specs.Cycle.{uart_cycle}
@@ -58,10 +60,15 @@ pub record AwaitsUnit {S : Type 0} (owed : ℕ) (j : Joined S) : Type 0 where
   pub places : HasPlaces j
   pub answers : AnswersComing owed j.down j.up
 
+-- how many entries wait in the SPI unit
+abbrev pub queued_in : SpiState → ℕ
+queued_in s = length s.queue
+
 -- so it is for each unit
 pub record CreditsHold (c : ChipState) : Type 0 where
   pub uart0 : ServesUnit at_data c.hub.fronts.uart0 waiting_in c.units.uart0
   pub uart1 : ServesUnit at_data c.hub.fronts.uart1 waiting_in c.units.uart1
+  pub spi : ServesUnit at_either_data c.hub.fronts.spi queued_in c.units.spi
   pub gpio : AwaitsUnit c.hub.fronts.gpio.owed c.units.gpio
   pub pwm : AwaitsUnit c.hub.fronts.pwm.owed c.units.pwm
 
@@ -69,7 +76,12 @@ pub record CreditsHold (c : ChipState) : Type 0 where
 abbrev pub UartLosesNone : UartState → ℕ → Option Down → Type 0
 UartLosesNone s now down = reset_in down ≡ 0 → s.fifo ++ bytes_in down ≡ bytes_out (uart_cycle s now down).event ++ (uart_cycle s now down).unit.fifo
 
+-- in a cycle in which no Reset arrives, the entries that waited and came wait in the same order, but for the first one where its credit goes up
+abbrev pub SpiLosesNone : SpiState → ℕ → Option Down → Type 0
+SpiLosesNone s now down = reset_in down ≡ 0 → (spi_cycle s now down).unit.queue ≡ drop (credit_in (spi_cycle s now down).up) (s.queue ++ entries_in down)
+
 -- no byte is lost in the cycle that comes next
 pub record LosesNone (c : ChipState) : Type 0 where
   pub uart0 : UartLosesNone c.units.uart0.unit c.cycle (link_first c.units.uart0.down)
   pub uart1 : UartLosesNone c.units.uart1.unit c.cycle (link_first c.units.uart1.down)
+  pub spi : SpiLosesNone c.units.spi.unit c.cycle (link_first c.units.spi.down)
