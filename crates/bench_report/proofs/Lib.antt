@@ -1,3 +1,4 @@
 pub mod Events
 pub mod Going
 pub mod Rows
+mod FlashRows

@@ -1,8 +1,9 @@
 -- The text of a report (definitions).
-use Rattle.std.specs.Prelude.{◌==◌, ℕ, ◌+◌, ◌*◌, ◌/◌, ◌%◌, List, [], ◌∷◌, ◌++◌, length, slice_index, slice_range, codes, decimal, if◌then◌else◌}
+use Rattle.std.specs.Prelude.{◌==◌, ℕ, ◌+◌, ◌*◌, ◌/◌, ◌%◌, List, [], ◌∷◌, ◌++◌, Option, None, Some, length, map, slice_index, slice_range, codes, decimal, if◌then◌else◌}
 use Rattle.std.specs.List.{flat_map, list_all}
 use Rattle.hex.specs.Hex.{encode_lower}
 use Rattle.soc_words.specs.Text.{hex_word, line, joined_below}
+use Rattle.spi_flash.specs.Flash.{FlashState, byte_of, flash_size}
 use Rattle.chip_hub.specs.Views.{boot_view, hart_view}
 use Rattle.chip_whole.specs.Chip.{ChipState}
 use Rattle.chip_base.specs.UnitTable.{lane_name, unit_row}
@@ -17,7 +18,7 @@ use Rattle.chip_base.specs.declared.hart.PhaseWord.{PhaseWord}
 use Rattle.chip_base.specs.declared.hart.PhaseWord.TheVariants.{Ready, Run, Want, Sleep, Parked, Monitor}
 
 -- what a report shows: the number of cycles that were run, the events in their order, how core 0 began, both harts, and the
--- bytes of both memories
+-- bytes of both memories and, where one is fitted, of the flash
 pub record Shown : Type 0 where
   pub cycles : ℕ
   pub events : List Event
@@ -26,6 +27,7 @@ pub record Shown : Type 0 where
   pub hart1 : HartView
   pub imem : List ℕ
   pub dmem : List ℕ
+  pub flash : Option (List ℕ)
 
 unfoldable pub cycles_text : ℕ → List ℕ
 cycles_text cycles = line (codes "cycles " ++ decimal cycles)
@@ -102,6 +104,28 @@ row_text_in base memory number = row_text (base + 16 * number) (slice_range memo
 abbrev pub memory_text : ℕ → List ℕ → List ℕ
 memory_text base memory = joined_below (row_text_in base memory) (length memory / 16)
 
+-- the number of rows of sixteen bytes of a flash
+unfoldable pub flash_rows : ℕ
+flash_rows = flash_size / 16
+
+-- the row of sixteen bytes of this number
+abbrev pub flash_row : List ℕ → ℕ → List ℕ
+flash_row cells number = map (λ k. byte_of cells (16 * number + k)) (0 ∷ 1 ∷ 2 ∷ 3 ∷ 4 ∷ 5 ∷ 6 ∷ 7 ∷ 8 ∷ 9 ∷ 10 ∷ 11 ∷ 12 ∷ 13 ∷ 14 ∷ 15 ∷ [])
+
+-- nothing for a row that is all ff
+unfoldable pub flash_row_text : ℕ → List ℕ → List ℕ
+flash_row_text address row =
+    if list_all (λ b. b == 255) row then []
+    else line (codes "flash " ++ hex_word address ++ codes " " ++ encode_lower row)
+
+abbrev pub flash_row_in : List ℕ → ℕ → List ℕ
+flash_row_in cells number = flash_row_text (16 * number) (flash_row cells number)
+
+-- nothing where none is fitted
+abbrev pub flash_text : Option (List ℕ) → List ℕ
+flash_text None = []
+flash_text (Some cells) = joined_below (flash_row_in cells) flash_rows
+
 unfoldable pub end_text : List ℕ
 end_text = line (codes "end")
 
@@ -113,10 +137,14 @@ harts_text s = hart_lines_text 0 s.hart0 ++ unless_parked s.hart1.phase (hart_li
 
 -- DMEM begins at 2 ^ 31
 abbrev pub tail_text : Shown → List ℕ
-tail_text s = memory_text 0 s.imem ++ memory_text 2147483648 s.dmem ++ end_text
+tail_text s = memory_text 0 s.imem ++ memory_text 2147483648 s.dmem ++ flash_text s.flash ++ end_text
 
 abbrev pub report : Shown → List ℕ
 report s = head_text s ++ harts_text s ++ tail_text s
+
+-- the bytes of a flash, where it is fitted
+abbrev pub shown_flash : FlashState → Option (List ℕ)
+shown_flash f = if f.fitted then Some f.cells else None
 
 -- what a report shows of a chip after this many cycles
 abbrev pub shown : ChipState → ℕ → Shown
@@ -128,4 +156,5 @@ shown chip cycles = record {
   hart1 = hart_view chip.hub 1;
   imem = chip.hub.memory.imem;
   dmem = chip.hub.memory.dmem;
+  flash = shown_flash chip.units.spi.unit.flash;
 }

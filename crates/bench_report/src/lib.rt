@@ -2,6 +2,7 @@
 #![tactic(auto)]
 
 mod bank;
+mod flash_rows;
 mod report;
 mod whole;
 

@@ -5,10 +5,11 @@ ghost use Rattle.hex.specs.Hex.{encode_lower};
 ghost use Rattle.soc_words.specs.Text.{line, hex_word, joined_below};
 ghost use Rattle.bench_shelf.specs.Sink.{Writes};
 ghost use Rattle.bench_report.specs.Bank.{base_of, bytes_of};
-ghost use Rattle.bench_report.specs.Report.{cycles_text, event_kind_name, value_text, event_text, events_text, boot_text, phase_text, hart_text, register_text, register_text_in, hart_lines_text, unless_parked, row_text, row_text_in, memory_text, end_text};
+ghost use Rattle.bench_report.specs.Report.{cycles_text, event_kind_name, value_text, event_text, events_text, boot_text, phase_text, hart_text, register_text, register_text_in, hart_lines_text, unless_parked, row_text, row_text_in, memory_text, flash_text, shown_flash, end_text};
 ghost use Rattle.chip_whole.specs.Stands.{ForEach};
 
 use crate::bank::Bank;
+use crate::flash_rows::put_flash;
 use bench_shelf::{Sink, SinkFault};
 use chip_base::chip_unit::lane_name;
 use chip_base::{BootView, ChipUnit, Event, EventKind, HartView, PhaseWord};
@@ -248,11 +249,13 @@ pub fn put_harts<O: Sink>(first: &HartView, second: &HartView, out: &mut O) -> R
     put_second_hart(second, out)
 }
 
-/// Writes the lines of the memories, and the last line.
+/// Writes the lines of the memories and of the flash, and the last line.
 pub fn put_tail<O: Sink>(chip: &Chip, out: &mut O) -> Result<(), SinkFault>
-    ensures { ForEach ⟦<Chip as Standing>⟧.stands chip.now (λ _ s. Writes O.written O.faults out.old out.new (memory_text 0 s.hub.memory.imem ++ memory_text 2147483648 s.hub.memory.dmem ++ end_text) result) }
+    ensures { ForEach ⟦<Chip as Standing>⟧.stands chip.now (λ _ s. Writes O.written O.faults out.old out.new (memory_text 0 s.hub.memory.imem ++ memory_text 2147483648 s.hub.memory.dmem
+        ++ flash_text (shown_flash s.units.spi.unit.flash) ++ end_text) result) }
 {
     put_memory(chip, Bank::Imem, out)?;
     put_memory(chip, Bank::Dmem, out)?;
+    put_flash(chip, out)?;
     put_line(&end_line(), out)
 }

@@ -1,0 +1,12 @@
+use Rattle.std.proofs.Common.{◌≡◌, Ok, true}
+use Rattle.soc_words.specs.Text.{joined_below}
+use Rattle.bench_shelf.specs.Sink.{Appending}
+use Rattle.chip_net.specs.contracts.chip.ChipStanding.TheImpl.{ghosts}
+use Rattle.chip_whole.specs.Stands.{ForEach}
+use Rattle.bench_report.specs.Report.{flash_row_in}
+use Rattle.bench_report.proofs.flash_rows.put_rows.Given as goal
+
+abbrev pub invariant-loop-number : goal.invariant-loop-number
+invariant-loop-number g l =
+    ForEach ghosts.stands l.chip (λ _ s. s.units.spi.unit.flash.fitted ≡ true → Appending (g.O.Sink.written l.initial.out) (g.O.Sink.written l.out) (g.O.Sink.faults l.initial.out)
+    (g.O.Sink.faults l.out) (joined_below (flash_row_in s.units.spi.unit.flash.cells) l.number) (Ok (tt {0})))
