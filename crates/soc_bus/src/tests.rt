@@ -35,10 +35,7 @@ fn loads_what_was_stored(rt: HostRuntime) -> Result<(), Fail> {
 #[test]
 fn admits_by_the_map(rt: HostRuntime) {
     let store = Some(0);
-    let byte = Region::Device {
-        unit: 1,
-        reg: 4,
-    };
+    let byte = Region::Device { unit: 1, reg: 4 };
     for (addr, width, store, want) in [
         (0x0000_0fff, Width::Byte, store, Ok(Region::Imem)),
         (0x8000_1ffe, Width::Half, store, Ok(Region::Dmem)),
