@@ -28,7 +28,7 @@
 #define PWM_ENABLE              (1u << 0)
 #define PWM_PRESCALER(code)     ((uint32_t)(code) << 3)
 
-/* The codes of the prescalers of PWM and UARTs. */
+/* The codes of the prescalers of PWM, UARTs and SPI. */
 #define PRESCALER_2             0u
 #define PRESCALER_4             1u
 #define PRESCALER_8             2u
@@ -60,6 +60,36 @@
 #define UART_OVERRUN            (1u << 30) /* read only */
 #define UART_BUSY               (1u << 31) /* read only */
 
+/* SPI, with the flash behind it. */
+#define SPI_CTRL                REGISTER(0xfff80000)
+#define SPI_DATA                REGISTER(0xfff80004)
+#define SPI_CS                  REGISTER(0xfff80008)
+/* of CTRL */
+#define SPI_ENABLE              (1u << 0)
+#define SPI_PRESCALER(code)     ((uint32_t)(code) << 3)
+#define SPI_DIVIDER(divider)    ((uint32_t)(divider) << 6)
+#define SPI_RECEIVED            (1u << 16) /* read only */
+#define SPI_FULL                (1u << 21) /* read only */
+#define SPI_INTERRUPT           (1u << 22)
+#define SPI_OVERRUN             (1u << 30) /* read only */
+#define SPI_BUSY                (1u << 31) /* read only */
+/* of CS */
+#define SPI_SELECT              1u
+#define SPI_DESELECT            0u
+
+/* The flash's commands, and the bits of its status. */
+#define FLASH_PROGRAM           0x02
+#define FLASH_READ              0x03
+#define FLASH_WRITE_DISABLE     0x04
+#define FLASH_STATUS            0x05
+#define FLASH_WRITE_ENABLE      0x06
+#define FLASH_ERASE_4K          0x20
+#define FLASH_IDENTITY          0x9f
+#define FLASH_ERASE_64K         0xd8
+/* of the status */
+#define FLASH_BUSY              (1u << 0)
+#define FLASH_WRITABLE          (1u << 1)
+
 /* GPIO: 32 inputs and 32 outputs, a bit each. */
 #define GPIO_IN                 REGISTER(0xfffc0000) /* read only */
 #define GPIO_OUT                REGISTER(0xfffc0004)
@@ -74,6 +104,7 @@
 /* of OPEN */
 #define OPEN_UART0              (1u << 1)
 #define OPEN_UART1              (1u << 2)
+#define OPEN_SPI                (1u << 3)
 #define OPEN_GPIO               (1u << 4)
 #define OPEN_PWM                (1u << 5)
 
@@ -87,6 +118,7 @@
 #define DMA_LINE                (1u << 16)
 #define UART0_LINE              (1u << 17)
 #define UART1_LINE              (1u << 18)
+#define SPI_LINE                (1u << 19)
 #define GPIO_LINE               (1u << 20)
 
 /* of mstatus */
@@ -106,6 +138,7 @@ INTERRUPT_HANDLER void on_timer(void);
 INTERRUPT_HANDLER void on_dma(void);
 INTERRUPT_HANDLER void on_uart0(void);
 INTERRUPT_HANDLER void on_uart1(void);
+INTERRUPT_HANDLER void on_spi(void);
 INTERRUPT_HANDLER void on_gpio(void);
 
 /* The traps of the hart that calls this go where start.S says. For hart 0 start.S does so; hart 1's mtvec is 0 when it starts. */

@@ -39,16 +39,17 @@ trap_vectors:
         j       on_dma                          # 16
         j       on_uart0                        # 17
         j       on_uart1                        # 18
-        j       trap_stop
+        j       on_spi                          # 19
         j       on_gpio                         # 20
         .option pop
 
-        .weak   on_software, on_timer, on_dma, on_uart0, on_uart1, on_gpio
+        .weak   on_software, on_timer, on_dma, on_uart0, on_uart1, on_spi, on_gpio
         .set    on_software, trap_stop
         .set    on_timer, trap_stop
         .set    on_dma, trap_stop
         .set    on_uart0, trap_stop
         .set    on_uart1, trap_stop
+        .set    on_spi, trap_stop
         .set    on_gpio, trap_stop
 
 # An exception, or an interrupt without a handler. The hart stops here, asleep with no interrupt enabled, and the report shows the trap:
