@@ -1,6 +1,8 @@
 -- One cycle of the unit of the general-purpose pins: a definition.
 use Rattle.std.specs.Prelude.{◌==◌, ℕ, ◌^◌, nat_lt, List, [], ◌∷◌, Option, None, Some, if◌then◌else◌, bit_and, bit_or}
 use Rattle.std.specs.Int.{w32, bit_not}
+use Rattle.chip_base.specs.UnitTable.{unit_row}
+use Rattle.chip_base.specs.declared.chip_unit.ChipUnit.TheVariants.{Gpio}
 use Rattle.chip_base.specs.Given.{Given}
 use Rattle.chip_base.specs.declared.message.Down.{Down}
 use Rattle.chip_base.specs.declared.message.Down.TheVariants.{Reset, Set}
@@ -45,5 +47,5 @@ unfoldable pub gpio_cycle : GpioState → ℕ → Option Down → Given GpioStat
 gpio_cycle s now down = record {
   unit = record (moved s now) { outputs = outputs_after s.outputs down };
   up = input_up s.inputs (moved s now).inputs down;
-  event = change_event now 4 s.outputs (outputs_after s.outputs down);
+  event = change_event now (unit_row Gpio).number s.outputs (outputs_after s.outputs down);
 }

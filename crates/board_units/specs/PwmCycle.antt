@@ -1,5 +1,7 @@
 -- One cycle of the pulse-width modulation unit: a definition.
 use Rattle.std.specs.Prelude.{◌==◌, ℕ, ◌+◌, ◌%◌, ◌^◌, Bool, ◌&&◌, nat_lt, nat_le, get_or, set, Option, None, Some, if◌then◌else◌}
+use Rattle.chip_base.specs.UnitTable.{unit_row}
+use Rattle.chip_base.specs.declared.chip_unit.ChipUnit.TheVariants.{Pwm}
 use Rattle.chip_base.specs.Given.{Given}
 use Rattle.chip_base.specs.declared.message.Down.{Down}
 use Rattle.chip_base.specs.declared.message.Down.TheVariants.{Reset, Set}
@@ -46,11 +48,11 @@ counted s =
 
 -- the outputs of this cycle, and the count after it
 abbrev pub shown : PwmState → ℕ → Given PwmState
-shown s now = record { unit = counted (record s { mask = mask_of s }); up = None; event = change_event now 5 s.mask (mask_of s) }
+shown s now = record { unit = counted (record s { mask = mask_of s }); up = None; event = change_event now (unit_row Pwm).number s.mask (mask_of s) }
 
 -- a Reset makes all outputs low
 abbrev pub reset : PwmState → ℕ → Given PwmState
-reset s now = record { unit = pwm_reset; up = Some done_up; event = change_event now 5 s.mask 0 }
+reset s now = record { unit = pwm_reset; up = Some done_up; event = change_event now (unit_row Pwm).number s.mask 0 }
 
 -- one cycle: the message first, then the outputs
 unfoldable pub pwm_cycle : PwmState → ℕ → Option Down → Given PwmState

@@ -1,15 +1,13 @@
 //! The unit of the general-purpose pins, one cycle at a time.
 ghost use Rattle.std.specs.Prelude.{◌≡◌, ◌≤◌, ◌<◌, ◌+◌, length, drop, true};
+ghost use Rattle.chip_base.specs.UnitTable.{unit_row};
 ghost use Rattle.std.specs.List.{list_all};
 ghost use Rattle.chip_base.specs.Steps.{is_pin};
 ghost use Rattle.board_units.specs.GpioCycle.{with_level, inputs_after, still_to_come};
 
 use crate::messages::{change, done_and, with_word};
-use chip_base::{Cycle, Down, PinStep, Pins, UnitOut, Up};
+use chip_base::{ChipUnit, Cycle, Down, PinStep, Pins, UnitOut, Up};
 use std::marker::Model;
-
-/// The unit's number in events.
-const NUMBER: u8 = 4;
 
 /// 32 input pins, which follow a script, and 32 output pins.
 ///
@@ -107,7 +105,7 @@ impl Gpio {
         ensures event { result.event ≡ (gpio_cycle self.old now down).event }
         ensures pins { ChangesNow self.old now self.new.inputs }
         ensures answers { AnswersResets down result.up }
-        ensures tells { TellsChange now 4 self.old.outputs self.new.outputs result.event }
+        ensures tells { TellsChange now (unit_row ChipUnit.Gpio).number self.old.outputs self.new.outputs result.event }
     {
         let inputs = self.inputs;
         let outputs = self.outputs;
@@ -127,7 +125,7 @@ impl Gpio {
         }
         UnitOut {
             up,
-            event: change(now, NUMBER, outputs, self.outputs),
+            event: change(now, ChipUnit::Gpio.number(), outputs, self.outputs),
         }
     }
 }

@@ -1,13 +1,11 @@
 //! The pulse-width modulation unit, one cycle at a time.
 ghost use Rattle.std.specs.Prelude.{◌≡◌, ◌≤◌, ◌<◌, ◌*◌, ◌^◌, if◌then◌else◌};
+ghost use Rattle.chip_base.specs.UnitTable.{unit_row};
 
 use crate::messages::change;
 use chip_base::prescaler::prescaler;
-use chip_base::{Cycle, Down, UnitOut, Up};
+use chip_base::{ChipUnit, Cycle, Down, UnitOut, Up};
 use std::marker::Model;
-
-/// The unit's number in events.
-const NUMBER: u8 = 5;
 
 /// Four channels, each of whose outputs is high in the first steps of each 256, as many as its duty says.
 ///
@@ -131,7 +129,7 @@ impl Pwm {
         self.count();
         UnitOut {
             up: None,
-            event: change(now, NUMBER, before, self.mask),
+            event: change(now, ChipUnit::Pwm.number(), before, self.mask),
         }
     }
 
@@ -140,7 +138,7 @@ impl Pwm {
         ensures up { result.up ≡ (reset self.old now).up }
         ensures event { result.event ≡ (reset self.old now).event }
     {
-        let event = change(now, NUMBER, self.mask, 0);
+        let event = change(now, ChipUnit::Pwm.number(), self.mask, 0);
         *self = Pwm::new();
         UnitOut {
             up: Some(Up::DONE),
@@ -156,7 +154,7 @@ impl Pwm {
         ensures up { result.up ≡ (pwm_cycle self.old now down).up }
         ensures event { result.event ≡ (pwm_cycle self.old now down).event }
         ensures answers { AnswersResets down result.up }
-        ensures tells { TellsChange now 5 self.old.mask self.new.mask result.event }
+        ensures tells { TellsChange now (unit_row ChipUnit.Pwm).number self.old.mask self.new.mask result.event }
         ensures rests { RestsDisabled self.new }
     {
         match down {

@@ -7,7 +7,9 @@ ghost use Rattle.chip_whole.specs.Chip.{Board, arriving, image_for, is_image, to
 
 use crate::links::Links;
 use board_units::{Gpio, Pwm};
-use chip_base::{Bytes, Cycle, Down, Event, NoMemory, Script, Setup, Steps0, UartStep, Up};
+use chip_base::{
+    Bytes, ChipUnit, Cycle, Down, Event, NoMemory, Script, Setup, Steps0, UartStep, Up,
+};
 use spi_flash::Spi;
 use spi_flash::array::SIZE;
 use std::alloc::Global;
@@ -90,16 +92,16 @@ impl Units {
     {
         let image0 = image_for(alloc, &script.uart0, image)?;
         let image1 = image_for(alloc, &script.uart1, image)?;
-        let uart0_links = Links::new(alloc, setup, 0)?;
-        let uart1_links = Links::new(alloc, setup, 1)?;
-        let spi_links = Links::new(alloc, setup, 2)?;
-        let gpio_links = Links::new(alloc, setup, 3)?;
-        let pwm_links = Links::new(alloc, setup, 4)?;
+        let uart0_links = Links::new(alloc, setup, ChipUnit::Uart0.place())?;
+        let uart1_links = Links::new(alloc, setup, ChipUnit::Uart1.place())?;
+        let spi_links = Links::new(alloc, setup, ChipUnit::Spi.place())?;
+        let gpio_links = Links::new(alloc, setup, ChipUnit::Gpio.place())?;
+        let pwm_links = Links::new(alloc, setup, ChipUnit::Pwm.place())?;
         let spi = Spi::new(alloc, setup.flash)?;
         Ok(Units {
-            uart0: Uart::new(1, script.uart0, image0),
+            uart0: Uart::new(ChipUnit::Uart0.number(), script.uart0, image0),
             uart0_links,
-            uart1: Uart::new(2, script.uart1, image1),
+            uart1: Uart::new(ChipUnit::Uart1.number(), script.uart1, image1),
             uart1_links,
             spi,
             spi_links,
@@ -145,11 +147,13 @@ impl Units {
         let spi = self.spi.cycle(self.cycle, self.spi_links.at_unit());
         let gpio = self.gpio.cycle(self.cycle, self.gpio_links.at_unit());
         let pwm = self.pwm.cycle(self.cycle, self.pwm_links.at_unit());
-        self.uart0_links.step(downs[0], uart0.up);
-        self.uart1_links.step(downs[1], uart1.up);
-        self.spi_links.step(downs[2], spi.up);
-        self.gpio_links.step(downs[3], gpio.up);
-        self.pwm_links.step(downs[4], pwm.up);
+        self.uart0_links
+            .step(downs[ChipUnit::Uart0.place()], uart0.up);
+        self.uart1_links
+            .step(downs[ChipUnit::Uart1.place()], uart1.up);
+        self.spi_links.step(downs[ChipUnit::Spi.place()], spi.up);
+        self.gpio_links.step(downs[ChipUnit::Gpio.place()], gpio.up);
+        self.pwm_links.step(downs[ChipUnit::Pwm.place()], pwm.up);
         self.cycle += 1;
         [uart0.event, uart1.event, gpio.event, pwm.event]
     }

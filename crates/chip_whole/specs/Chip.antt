@@ -11,6 +11,8 @@ use Rattle.chip_base.specs.declared.message.Up.{Up}
 use Rattle.chip_base.specs.declared.script.Script.{Script}
 use Rattle.chip_base.specs.declared.script.UartStep.{UartStep}
 use Rattle.chip_base.specs.declared.script.UartStep.TheVariants.{Image}
+use Rattle.chip_base.specs.UnitTable.{link_place, unit_row}
+use Rattle.chip_base.specs.declared.chip_unit.ChipUnit.TheVariants.{Uart0, Uart1, Spi, Gpio, Pwm}
 use Rattle.chip_base.specs.Settings.{Values}
 use Rattle.chip_hub.specs.Cycle.{hub_cycle}
 use Rattle.chip_hub.specs.Start.{hub_start}
@@ -44,11 +46,11 @@ arriving u = link_first u.uart0.up ∷ link_first u.uart1.up ∷ link_first u.sp
 -- the units after a cycle in which this was sent down, by unit
 abbrev pub units_after : Board → Units → ℕ → List (Option Down) → Units
 units_after board u now downs = record {
-  uart0 = joined_after uart_cycle u.uart0 now (get_or downs 0 None);
-  uart1 = joined_after uart_cycle u.uart1 now (get_or downs 1 None);
-  spi = joined_after spi_cycle u.spi now (get_or downs 2 None);
-  gpio = joined_after gpio_cycle u.gpio now (get_or downs 3 None);
-  pwm = joined_after pwm_cycle u.pwm now (get_or downs 4 None);
+  uart0 = joined_after uart_cycle u.uart0 now (get_or downs (link_place Uart0) None);
+  uart1 = joined_after uart_cycle u.uart1 now (get_or downs (link_place Uart1) None);
+  spi = joined_after spi_cycle u.spi now (get_or downs (link_place Spi) None);
+  gpio = joined_after gpio_cycle u.gpio now (get_or downs (link_place Gpio) None);
+  pwm = joined_after pwm_cycle u.pwm now (get_or downs (link_place Pwm) None);
 }
 
 -- what happens at the chip's edge in a cycle, by unit; the SPI unit tells nothing
@@ -103,11 +105,11 @@ image_for steps image = if list_any is_image steps then image else []
 -- the units at power-on, with a script to come: nothing is on its way
 abbrev pub units_start : Values → List ℕ → Script → Units
 units_start v image script = record {
-  uart0 = joined_start (uart_start 1 script.uart0 (image_for script.uart0 image)) (delay_of v 0);
-  uart1 = joined_start (uart_start 2 script.uart1 (image_for script.uart1 image)) (delay_of v 1);
-  spi = joined_start (spi_start v.flash) (delay_of v 2);
-  gpio = joined_start (gpio_start script.pins) (delay_of v 3);
-  pwm = joined_start pwm_reset (delay_of v 4);
+  uart0 = joined_start (uart_start (unit_row Uart0).number script.uart0 (image_for script.uart0 image)) (delay_of v (link_place Uart0));
+  uart1 = joined_start (uart_start (unit_row Uart1).number script.uart1 (image_for script.uart1 image)) (delay_of v (link_place Uart1));
+  spi = joined_start (spi_start v.flash) (delay_of v (link_place Spi));
+  gpio = joined_start (gpio_start script.pins) (delay_of v (link_place Gpio));
+  pwm = joined_start pwm_reset (delay_of v (link_place Pwm));
 }
 
 -- the chip at power-on, with the bytes of a file from address 0 of IMEM: no event has come

@@ -1,5 +1,7 @@
 -- A law over definitions: what a UART is given to send over a run, and what it sends.
 use Rattle.std.specs.Prelude.{◌≡◌, ◌==◌, ℕ, zero, suc, ◌+◌, List, [], ◌∷◌, ◌++◌, Option, None, get_or, if◌then◌else◌}
+use Rattle.chip_base.specs.UnitTable.{link_place, unit_row}
+use Rattle.chip_base.specs.declared.chip_unit.ChipUnit.TheVariants.{Uart0, Uart1}
 use Rattle.chip_base.specs.Messages.{reset_in}
 use Rattle.chip_base.specs.declared.event.Event.{Event}
 use Rattle.chip_base.specs.declared.message.Down.{Down}
@@ -39,5 +41,5 @@ abbrev pub SendsBytes : Board → ChipState → ℕ → ℕ → ℕ → Joined U
 SendsBytes board c n place unit j = resets_down board c place n ≡ 0 → bytes_down board c place n ≡ told_by unit (after board c n).events ++ j.unit.fifo ++ bytes_on j.down
 
 pub record SendsInOrder (board : Board) (c : ChipState) (n : ℕ) : Type 0 where
-  pub uart0 : SendsBytes board c n 0 1 (after board c n).units.uart0
-  pub uart1 : SendsBytes board c n 1 2 (after board c n).units.uart1
+  pub uart0 : SendsBytes board c n (link_place Uart0) (unit_row Uart0).number (after board c n).units.uart0
+  pub uart1 : SendsBytes board c n (link_place Uart1) (unit_row Uart1).number (after board c n).units.uart1

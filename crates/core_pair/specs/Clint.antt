@@ -1,7 +1,9 @@
 -- A definition: the timer and the software interrupts.
-use Rattle.std.specs.Prelude.{◌==◌, ℕ, ◌+◌, ◌-◌, ◌*◌, ◌%◌, ◌^◌, Bool, List, [], ◌∷◌, nat_le, if◌then◌else◌}
+use Rattle.std.specs.Prelude.{◌==◌, ℕ, ◌+◌, ◌-◌, ◌*◌, ◌%◌, ◌^◌, Bool, List, nat_le, if◌then◌else◌}
 use Rattle.chip_base.specs.Bits.{high_of, high_set, low_of, low_set}
 use Rattle.std.specs.List.{list_any}
+use Rattle.chip_base.specs.UnitTable.{part_row}
+use Rattle.chip_base.specs.declared.chip_unit.HubPart.TheVariants.{Clint}
 
 -- for each hart the bit of its software interrupt and the time at which its timer interrupt comes, and the time
 pub record ClintState : Type 0 where
@@ -13,7 +15,7 @@ pub record ClintState : Type 0 where
 
 -- the offsets of the registers: the software interrupts, the two words of each mtimecmp, low word first, and those of mtime
 abbrev pub clint_offsets : List ℕ
-clint_offsets = 0 ∷ 4 ∷ 0x4000 ∷ 0x4004 ∷ 0x4008 ∷ 0x400c ∷ 0xbff8 ∷ 0xbffc ∷ []
+clint_offsets = (part_row Clint).offsets
 
 -- an offset is one of the list
 abbrev pub is_among : List ℕ → ℕ → Bool

@@ -1,5 +1,7 @@
 //! The DMA controller's registers and its accesses.
 ghost use Rattle.std.specs.Prelude.{◌≡◌, ◌⊎◌, IsSome, IsNone, true, false, if◌then◌else◌};
+ghost use Rattle.chip_base.specs.UnitTable.{part_has};
+ghost use Rattle.chip_base.specs.declared.chip_unit.HubPart.TheVariants as part;
 ghost use Rattle.dma_unit.specs.DmaRegisters.{address_after, state_before};
 
 use crate::state::DmaState;
@@ -102,7 +104,7 @@ impl Dma {
 
     /// Loads the register at an offset: CTRL 0, SRC 4, DST 8, COUNT 12, FAULT 16.
     pub fn load(&self, reg: u8) -> u32
-        requires register { (reg ≡ 0) ⊎ (reg ≡ 4) ⊎ (reg ≡ 8) ⊎ (reg ≡ 12) ⊎ (reg ≡ 16) }
+        requires register { part_has part.Dma reg ≡ true }
         ensures word { result ≡ dma_word self.now reg }
         ensures control { reg ≡ 0 → TellsDmaControl self.now result }
     {
@@ -145,7 +147,7 @@ impl Dma {
     /// A store to CTRL with bit 0 starts a copy.
     #[tactic(auto, using(crate::proofs::Stores::stores))]
     pub fn store(&mut self, reg: u8, word: u32)
-        requires register { (reg ≡ 0) ⊎ (reg ≡ 4) ⊎ (reg ≡ 8) ⊎ (reg ≡ 12) ⊎ (reg ≡ 16) }
+        requires register { part_has part.Dma reg ≡ true }
         ensures registers { self.new ≡ dma_stored self.old reg word }
         ensures words { StoresWord self.old reg word self.new }
         ensures copy { Copies self.new }

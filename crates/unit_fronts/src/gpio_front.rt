@@ -1,5 +1,7 @@
 //! The front of the general-purpose pins.
-ghost use Rattle.std.specs.Prelude.{◌≡◌, ◌⊎◌, false, true};
+ghost use Rattle.std.specs.Prelude.{◌≡◌, false, true};
+ghost use Rattle.chip_base.specs.UnitTable.{unit_has};
+ghost use Rattle.chip_base.specs.declared.chip_unit.ChipUnit.TheVariants.{Gpio};
 
 use crate::owed::Owed;
 use chip_base::{Down, Up};
@@ -52,7 +54,7 @@ impl GpioFront {
 
     /// Loads the register at an offset.
     pub fn load(&mut self, reg: u8) -> u32
-        requires register { (reg ≡ 0) ⊎ (reg ≡ 4) ⊎ (reg ≡ 8) ⊎ (reg ≡ 12) }
+        requires register { unit_has Gpio reg ≡ true }
         ensures word { result ≡ gpio_word self.old reg }
         ensures front { self.new ≡ self.old }
     {
@@ -71,7 +73,7 @@ impl GpioFront {
     /// or the register isn't OUT. A store to IN is ignored.
     #[tactic(auto, using(crate::proofs::LoadsAfterStore::stores_pins))]
     pub fn store(&mut self, reg: u8, word: u32) -> Option<Down>
-        requires register { (reg ≡ 0) ⊎ (reg ≡ 4) ⊎ (reg ≡ 8) ⊎ (reg ≡ 12) }
+        requires register { unit_has Gpio reg ≡ true }
         ensures message { result ≡ gpio_sent self.old reg word }
         ensures front { self.new ≡ gpio_stored self.old reg word }
         ensures owed { self.new.owed ≡ self.old.owed }

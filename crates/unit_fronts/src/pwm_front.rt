@@ -1,5 +1,7 @@
 //! The front of the pulse-width modulation unit.
-ghost use Rattle.std.specs.Prelude.{◌≡◌, ◌⊎◌, false, true};
+ghost use Rattle.std.specs.Prelude.{◌≡◌, false, true};
+ghost use Rattle.chip_base.specs.UnitTable.{unit_has};
+ghost use Rattle.chip_base.specs.declared.chip_unit.ChipUnit.TheVariants.{Pwm};
 
 use crate::owed::Owed;
 use chip_base::{Down, Up};
@@ -49,7 +51,7 @@ impl PwmFront {
 
     /// Loads the register at an offset.
     pub fn load(&mut self, reg: u8) -> u32
-        requires register { (reg ≡ 0) ⊎ (reg ≡ 4) ⊎ (reg ≡ 8) ⊎ (reg ≡ 12) ⊎ (reg ≡ 16) }
+        requires register { unit_has Pwm reg ≡ true }
         ensures word { result ≡ pwm_word self.old reg }
         ensures front { self.new ≡ self.old }
     {
@@ -65,7 +67,7 @@ impl PwmFront {
     /// Stores a word to the register at an offset and gives the message for the unit. None exactly where the front is closed.
     #[tactic(auto, using(crate::proofs::LoadsAfterStore::stores_duties))]
     pub fn store(&mut self, reg: u8, word: u32) -> Option<Down>
-        requires register { (reg ≡ 0) ⊎ (reg ≡ 4) ⊎ (reg ≡ 8) ⊎ (reg ≡ 12) ⊎ (reg ≡ 16) }
+        requires register { unit_has Pwm reg ≡ true }
         ensures message { result ≡ pwm_sent self.old reg word }
         ensures front { self.new ≡ pwm_stored self.old reg word }
         ensures words { is_open_at self.old.owed ≡ true → StoresDuties self.old reg word self.new }

@@ -1,5 +1,7 @@
 //! The front of the SPI unit.
-ghost use Rattle.std.specs.Prelude.{◌≡◌, ◌≤◌, ◌⊎◌, None, true};
+ghost use Rattle.std.specs.Prelude.{◌≡◌, ◌≤◌, None, true};
+ghost use Rattle.chip_base.specs.UnitTable.{unit_has};
+ghost use Rattle.chip_base.specs.declared.chip_unit.ChipUnit.TheVariants.{Spi};
 
 use crate::serial_registers::SerialRegisters;
 use chip_base::{Down, Up};
@@ -51,7 +53,7 @@ impl SpiFront {
     /// Loads the register at an offset. A load of DATA takes the oldest received byte, or gives 0; CS reads 0.
     #[tactic(auto, using(crate::proofs::ReceiveQueue::gives_in_order, crate::proofs::ReceiveQueue::load_marks))]
     pub fn load(&mut self, reg: u8) -> u32
-        requires register { (reg ≡ 0) ⊎ ((reg ≡ 4) ⊎ (reg ≡ 8)) }
+        requires register { unit_has Spi reg ≡ true }
         ensures word { result ≡ serial_word self.old reg }
         ensures front { self.new ≡ serial_loaded self.old reg }
         ensures control { serial_is_open self.old ≡ true → reg ≡ 0 → TellsControl self.old result }
@@ -73,7 +75,7 @@ impl SpiFront {
     /// or where a store to DATA or CS finds no credit.
     #[tactic(auto, using(crate::proofs::Control::spi_part, crate::proofs::Control::spi_small, crate::proofs::Control::sets_spi_control, crate::proofs::Counts::spends, crate::proofs::ReceiveQueue::store_marks))]
     pub fn store(&mut self, reg: u8, word: u32) -> Option<Down>
-        requires register { (reg ≡ 0) ⊎ ((reg ≡ 4) ⊎ (reg ≡ 8)) }
+        requires register { unit_has Spi reg ≡ true }
         ensures message { result ≡ serial_sent spi_kind self.old reg word }
         ensures front { self.new ≡ serial_stored spi_kind self.old reg word }
         ensures credits { SpendsCredits at_either_data self.old result self.new }
