@@ -7,3 +7,4 @@ pub mod Order
 pub mod Receipt
 pub mod Received
 pub mod Script
+pub mod Idle

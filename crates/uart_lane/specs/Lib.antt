@@ -2,6 +2,7 @@ pub mod Counts
 pub mod Cycle
 pub mod Frames
 pub mod Hearing
+pub mod Idle
 pub mod Receipt
 pub mod Receiver
 pub mod Receiving

@@ -32,6 +32,7 @@ impl Model for Receiver {
 
 impl Receiver {
     ghost use Rattle.uart_lane.specs.Receiver.{at_first, dropped};
+    ghost use Rattle.uart_lane.specs.Idle.{is_done};
     ghost use Rattle.uart_lane.specs.Receiving.{heard_with, current, bytes_of, is_sent, passes, passed, framed, looked, ready, ended, run, receive};
     ghost use Rattle.std.specs.Prelude.{slice_get};
 
@@ -55,6 +56,13 @@ impl Receiver {
         ensures { self.new ≡ dropped self.old }
     {
         self.left = 0;
+    }
+
+    /// Whether no frame runs and no step is left.
+    pub(crate) fn is_done(&self) -> bool
+        ensures { result ≡ is_done self.now }
+    {
+        self.left == 0 && self.place == self.steps.as_slice().len()
     }
 
     fn hear(&mut self, event: Option<Event>)

@@ -54,6 +54,7 @@ fn with_byte(up: Option<Up>, byte: Option<u8>) -> Option<Up>
 impl Uart {
     ghost use Rattle.uart_lane.specs.State.{uart_start, uart_reset};
     ghost use Rattle.uart_lane.specs.Cycle.{configured, appended, set_in, frame_of, begun, ended, sent, received, reset, uart_cycle};
+    ghost use Rattle.uart_lane.specs.Idle.{is_idle};
     ghost use Rattle.uart_lane.specs.Counts.{KeepsCount, KeepsOrder};
     ghost use Rattle.uart_lane.specs.Frames.{SendsInTime};
     ghost use Rattle.uart_lane.specs.Hearing.{HearsAll};
@@ -176,7 +177,14 @@ impl Uart {
         self.send(now)
     }
 
-    fn work(&mut self, now: Cycle) -> UnitOut
+    /// Whether a cycle without a message leaves the unit as it is.
+    fn is_idle(&self) -> bool
+        ensures { result ≡ is_idle self.now }
+    {
+        self.left == 0 && self.fifo.is_empty() && self.receiver.is_done()
+    }
+
+    fn send_and_receive(&mut self, now: Cycle) -> UnitOut
         ensures unit { self.new ≡ (received (sent (begun self.old) now) now).unit }
         ensures up { result.up ≡ (received (sent (begun self.old) now) now).up }
         ensures event { result.event ≡ (received (sent (begun self.old) now) now).event }
@@ -188,6 +196,22 @@ impl Uart {
         UnitOut {
             up: with_byte(out.up, byte),
             event: out.event,
+        }
+    }
+
+    /// The work of a cycle, which an idle unit is spared.
+    #[tactic(auto, using(crate::proofs::Idle::idle_unit, crate::proofs::Idle::idle_up, crate::proofs::Idle::idle_event))]
+    fn work(&mut self, now: Cycle) -> UnitOut
+        ensures unit { self.new ≡ (received (sent (begun self.old) now) now).unit }
+        ensures up { result.up ≡ (received (sent (begun self.old) now) now).up }
+        ensures event { result.event ≡ (received (sent (begun self.old) now) now).event }
+        ensures bit { 0 < self.new.bit }
+    {
+        let _ = &self.bit;
+        if self.is_idle() {
+            UnitOut::QUIET
+        } else {
+            self.send_and_receive(now)
         }
     }
 
