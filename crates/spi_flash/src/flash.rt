@@ -2,6 +2,7 @@
 ghost use Rattle.std.specs.Prelude.{◌≡◌, ◌<◌, ◌≤◌, ◌*◌, ◌+◌, ◌%◌, ◌^◌, Bool, ℕ, true, false, None, IfOk, IfSome, is_some, if◌then◌else◌, slice_set};
 ghost use Rattle.spi_flash.specs.Flash.{addressed, answer_in, answer_of, blank, broken_off, byte_of, byte_sent, cells_of, command_in, commanded, deselected, done_by, enable_after, erase_of, flash_cycle, flash_start, followed, identity, opened, operation_of, selected, started, status_of, time_of, worked};
 ghost use Rattle.spi_flash.specs.Valid.{IsOperation, IsTransfer};
+ghost use Rattle.spi_flash.specs.Unasked.{AnswersUnasked, ShowsBusy};
 ghost use Rattle.spi_flash.specs.Laws.{HoldsOfAnswers, HoldsOfByte, HoldsOfCycle, HoldsOfSelection};
 
 use crate::array::{Array, SIZE};
@@ -272,6 +273,13 @@ impl Flash {
         }
     }
 
+    /// Whether an operation is under way.
+    pub fn is_busy(&self) -> bool
+        ensures { result ≡ is_some self.now.work }
+    {
+        self.work.is_some()
+    }
+
     fn status(&self) -> u8
         ensures { result ≡ status_of self.now }
     {
@@ -300,6 +308,7 @@ impl Flash {
     pub fn answer(&self) -> u8
         ensures value { result ≡ answer_of self.now }
         ensures law { HoldsOfAnswers self.now }
+        ensures unasked { AnswersUnasked self.now }
     {
         if self.is_fitted() {
             self.answer_in(&self.transfer)
@@ -359,6 +368,7 @@ impl Flash {
     pub fn select(&mut self, on: bool)
         ensures value { self.new ≡ selected self.old on }
         ensures law { HoldsOfSelection self.old on }
+        ensures busy { ShowsBusy self.old }
     {
         if !self.is_fitted() {
             return;
@@ -383,6 +393,9 @@ impl Flash {
         ensures value { self.new ≡ flash_cycle self.old }
         ensures law { HoldsOfCycle self.old }
     {
+        if !self.is_busy() {
+            return;
+        }
         let Some(work) = self.work else {
             return;
         };

@@ -116,6 +116,7 @@ impl Spi {
     ghost use Rattle.spi_flash.specs.SpiCycle.{engine, exchanged, running, selecting, spi_cycle};
     ghost use Rattle.spi_flash.specs.SpiCounts.{CountsQueue, KeepsEntries};
     ghost use Rattle.spi_flash.specs.Laws.{HoldsOfTime};
+    ghost use Rattle.spi_flash.specs.UnitFlash.{StepsFlash};
 
     /// Takes the first entry off.
     fn take(&mut self)
@@ -188,6 +189,9 @@ impl Spi {
         ensures up { result.up ≡ (engine self.old).up }
         ensures event { result.event ≡ None }
     {
+        if self.queue.is_empty() && !self.flash.is_busy() {
+            return UnitOut::QUIET;
+        }
         self.flash.cycle();
         match self.queue.first() {
             None => UnitOut::QUIET,
@@ -207,7 +211,7 @@ impl Spi {
     ///
     /// In the cycle in which an entry is done its credit goes up, and of a byte the flash's answer as a word beside it. In the cycle
     /// of a Reset only its answer, done, goes up. There are no events.
-    #[tactic(auto, unfolding(crate::specs::SpiCycle::spi_cycle), using(crate::proofs::SpiCounts::counts_queue, crate::proofs::SpiCounts::keeps_entries))]
+    #[tactic(auto, unfolding(crate::specs::SpiCycle::spi_cycle), using(crate::proofs::SpiCounts::counts_queue, crate::proofs::SpiCounts::keeps_entries, crate::proofs::UnitFlash::steps_as))]
     pub fn cycle(&mut self, now: Cycle, down: Option<Down>) -> UnitOut
         ensures unit { self.new ≡ (spi_cycle self.old now down).unit }
         ensures up { result.up ≡ (spi_cycle self.old now down).up }
@@ -215,6 +219,7 @@ impl Spi {
         ensures count { CountsQueue self.old down self.new result.up }
         ensures order { KeepsEntries self.old down self.new result.up }
         ensures time { HoldsOfTime self.old }
+        ensures flash { StepsFlash self.old down self.new result.up }
     {
         match down {
             Some(Down::Reset) => {
