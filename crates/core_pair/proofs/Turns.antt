@@ -21,7 +21,8 @@ use Rattle.core_pair.specs.declared.fetch.Fetched.TheVariants.{Absent, Parcel, W
 use Rattle.core_pair.specs.declared.phase.Phase.{Phase}
 use Rattle.core_pair.specs.declared.phase.Phase.TheVariants.{Run, Want, Sleep, Parked, Monitor}
 use Rattle.core_pair.specs.Core.{CoreState, hart_of}
-use Rattle.core_pair.specs.Execute.{counted, counted_by, csr_done, csr_operand, csr_word, csr_writes, csr_written, cycles, exec, executed, illegal}
+use Rattle.core_pair.specs.CsrRows.{csr_operand, csr_word, csr_writes}
+use Rattle.core_pair.specs.Execute.{counted, counted_by, csr_done, csr_written, cycles, exec, executed, illegal}
 use Rattle.core_pair.specs.Fetch.{fetched_at, fetched_by, half_at, word_with}
 use Rattle.core_pair.specs.Hart.{HartState, Outcome, completed, completes, entered, retired, retires}
 use Rattle.core_pair.specs.Turn.{Turned, acted, acted_by, idle, issued_by, ticked, turned, turned_in}
@@ -136,9 +137,9 @@ complete_leaves h rd value next cycles = refl
 csr_leaves : (h : HartState) (i : Instr) (word next : ℕ) (o : Option ℕ) → i.csr ≢ (row_of Mcycle).number → i.csr ≢ (row_of Mcycleh).number → (csr_done h i word next o).hart.csrs.mcycle ≡ h.csrs.mcycle
 csr_leaves h i word next None low_apart high_apart = trap_leaves h word
 csr_leaves h i word next (Some old) low_apart high_apart =
-    let value = csr_word i.op old (csr_operand h i i.op) in
+    let value = csr_word i.op old (csr_operand h i) in
     let s = written h.csrs i.csr value in
-    choice_leaves h.csrs.mcycle (csr_writes i i.op) (csr_written h i word next old) (retires h i.rd old next (cycles i))
+    choice_leaves h.csrs.mcycle (csr_writes i) (csr_written h i word next old) (retires h i.rd old next (cycles i))
     (choice_leaves h.csrs.mcycle (writable i.csr) (completes (record h { csrs = counted s i.csr }) i.rd old next (cycles i)) (illegal h word)
     (complete_leaves (record h { csrs = counted s i.csr }) i.rd old next (cycles i) ∙ counted_leaves s (csr_at i.csr) ∙ write_leaves_mcycle h.csrs i.csr value low_apart high_apart)
     (trap_leaves h word))

@@ -1,7 +1,5 @@
 -- A definition: what an instruction does, by the rows of the instruction table.
-use Rattle.std.specs.Prelude.{◌==◌, ℕ, ◌-◌, ◌*◌, ◌/◌, ◌%◌, Bool, true, false, Option, Some, None, slice_index, bit_and, bit_or, if◌then◌else◌}
-use Rattle.std.specs.Int.{w32, bit_not}
-use mathlib.Core.Bool.{not}
+use Rattle.std.specs.Prelude.{◌==◌, ℕ, ◌-◌, ◌*◌, ◌/◌, ◌%◌, Bool, true, false, Option, Some, None, slice_index, if◌then◌else◌}
 use Rattle.soc_words.specs.Word.{wrapped_sum}
 use Rattle.soc_bus.specs.declared.access.Width.TheVariants.{Byte, Half, Word}
 use Rattle.rv_decode.specs.declared.instr.Instr.{Instr}
@@ -20,6 +18,7 @@ use Rattle.core_pair.specs.declared.phase.Awaited.{Awaited}
 use Rattle.core_pair.specs.declared.phase.Phase.{Phase}
 use Rattle.core_pair.specs.declared.phase.Phase.TheVariants.{Run, Want, Sleep}
 use Rattle.core_pair.specs.Core.{CoreState, busy_after, hart_of}
+use Rattle.core_pair.specs.CsrRows.{csr_operand, csr_word, csr_writes}
 use Rattle.core_pair.specs.Hart.{HartState, Outcome, completes, retires, traps}
 use Rattle.core_pair.specs.Access.{load_awaited, load_request, store_awaited, store_request}
 
@@ -48,29 +47,6 @@ branched h i next =
     let taken = taken_at i.op (slice_index h.regs i.rs1) (slice_index h.regs i.rs2) in
     retires h 0 0 (if taken then wrapped_sum h.pc i.imm else next) (cost_of i.op 0 taken)
 
--- the operand of a CSR row: five bits of the instruction, or a register
-abbrev pub csr_operand : HartState → Instr → Op → ℕ
-csr_operand h i Csrrwi = i.imm
-csr_operand h i Csrrsi = i.imm
-csr_operand h i Csrrci = i.imm
-csr_operand h i _ = slice_index h.regs i.rs1
-
--- the word that a CSR row writes
-abbrev pub csr_word : Op → ℕ → ℕ → ℕ
-csr_word Csrrs old operand = bit_or old operand
-csr_word Csrrsi old operand = bit_or old operand
-csr_word Csrrc old operand = bit_and old (bit_not w32 operand)
-csr_word Csrrci old operand = bit_and old (bit_not w32 operand)
-csr_word _ old operand = operand
-
--- whether a CSR row writes: those that set or clear bits don't where their register is x0 or their five bits are 0
-abbrev pub csr_writes : Instr → Op → Bool
-csr_writes i Csrrs = not (i.rs1 == 0)
-csr_writes i Csrrc = not (i.rs1 == 0)
-csr_writes i Csrrsi = not (i.imm == 0)
-csr_writes i Csrrci = not (i.imm == 0)
-csr_writes i _ = true
-
 -- an instruction that wrote minstret or minstreth isn't counted
 abbrev pub counted_by : CsrsState → Option Csr → CsrsState
 counted_by csrs (Some Minstret) = csrs
@@ -89,14 +65,14 @@ illegal h word = traps h (cause_of IllegalInstruction) word
 abbrev pub csr_written : HartState → Instr → ℕ → ℕ → ℕ → Outcome
 csr_written h i word next old =
     if writable i.csr then
-    completes (record h { csrs = counted (written h.csrs i.csr (csr_word i.op old (csr_operand h i i.op))) i.csr }) i.rd old next (cycles i)
+    completes (record h { csrs = counted (written h.csrs i.csr (csr_word i.op old (csr_operand h i))) i.csr }) i.rd old next (cycles i)
     else illegal h word
 
 -- a CSR row, by what a read of its CSR gives; it is illegal where there is no such CSR
 abbrev pub csr_done : HartState → Instr → ℕ → ℕ → Option ℕ → Outcome
 csr_done h i word next None = illegal h word
 csr_done h i word next (Some old) =
-    if csr_writes i i.op then csr_written h i word next old else retires h i.rd old next (cycles i)
+    if csr_writes i then csr_written h i word next old else retires h i.rd old next (cycles i)
 
 -- a load or store: nothing of the hart changes before its grant
 abbrev pub accesses : HartState → Instr → Outcome
@@ -175,7 +151,54 @@ phase_after h i cycles Sb = Want (store_request h i Byte)
 phase_after h i cycles Sh = Want (store_request h i Half)
 phase_after h i cycles Sw = Want (store_request h i Word)
 phase_after h i cycles Wfi = Sleep (cycles - 1)
-phase_after h i cycles _ = Run (cycles - 1)
+phase_after h i cycles Lui = Run (cycles - 1)
+phase_after h i cycles Auipc = Run (cycles - 1)
+phase_after h i cycles Jal = Run (cycles - 1)
+phase_after h i cycles Jalr = Run (cycles - 1)
+phase_after h i cycles Beq = Run (cycles - 1)
+phase_after h i cycles Bne = Run (cycles - 1)
+phase_after h i cycles Blt = Run (cycles - 1)
+phase_after h i cycles Bge = Run (cycles - 1)
+phase_after h i cycles Bltu = Run (cycles - 1)
+phase_after h i cycles Bgeu = Run (cycles - 1)
+phase_after h i cycles Addi = Run (cycles - 1)
+phase_after h i cycles Slti = Run (cycles - 1)
+phase_after h i cycles Sltiu = Run (cycles - 1)
+phase_after h i cycles Xori = Run (cycles - 1)
+phase_after h i cycles Ori = Run (cycles - 1)
+phase_after h i cycles Andi = Run (cycles - 1)
+phase_after h i cycles Slli = Run (cycles - 1)
+phase_after h i cycles Srli = Run (cycles - 1)
+phase_after h i cycles Srai = Run (cycles - 1)
+phase_after h i cycles Add = Run (cycles - 1)
+phase_after h i cycles Sll = Run (cycles - 1)
+phase_after h i cycles Slt = Run (cycles - 1)
+phase_after h i cycles Sltu = Run (cycles - 1)
+phase_after h i cycles Xor = Run (cycles - 1)
+phase_after h i cycles Srl = Run (cycles - 1)
+phase_after h i cycles Or = Run (cycles - 1)
+phase_after h i cycles And = Run (cycles - 1)
+phase_after h i cycles Sub = Run (cycles - 1)
+phase_after h i cycles Sra = Run (cycles - 1)
+phase_after h i cycles Mul = Run (cycles - 1)
+phase_after h i cycles Mulh = Run (cycles - 1)
+phase_after h i cycles Mulhsu = Run (cycles - 1)
+phase_after h i cycles Mulhu = Run (cycles - 1)
+phase_after h i cycles Div = Run (cycles - 1)
+phase_after h i cycles Divu = Run (cycles - 1)
+phase_after h i cycles Rem = Run (cycles - 1)
+phase_after h i cycles Remu = Run (cycles - 1)
+phase_after h i cycles Fence = Run (cycles - 1)
+phase_after h i cycles FenceI = Run (cycles - 1)
+phase_after h i cycles Csrrw = Run (cycles - 1)
+phase_after h i cycles Csrrs = Run (cycles - 1)
+phase_after h i cycles Csrrc = Run (cycles - 1)
+phase_after h i cycles Csrrwi = Run (cycles - 1)
+phase_after h i cycles Csrrsi = Run (cycles - 1)
+phase_after h i cycles Csrrci = Run (cycles - 1)
+phase_after h i cycles Ecall = Run (cycles - 1)
+phase_after h i cycles Ebreak = Run (cycles - 1)
+phase_after h i cycles Mret = Run (cycles - 1)
 
 -- what the core keeps until a grant; a row that is neither a load nor a store leaves it
 abbrev pub awaited_after : Awaited → Instr → ℕ → Op → Awaited
@@ -187,7 +210,55 @@ awaited_after a i next Lhu = load_awaited i next false
 awaited_after a i next Sb = store_awaited next
 awaited_after a i next Sh = store_awaited next
 awaited_after a i next Sw = store_awaited next
-awaited_after a i next _ = a
+awaited_after a i next Lui = a
+awaited_after a i next Auipc = a
+awaited_after a i next Jal = a
+awaited_after a i next Jalr = a
+awaited_after a i next Beq = a
+awaited_after a i next Bne = a
+awaited_after a i next Blt = a
+awaited_after a i next Bge = a
+awaited_after a i next Bltu = a
+awaited_after a i next Bgeu = a
+awaited_after a i next Addi = a
+awaited_after a i next Slti = a
+awaited_after a i next Sltiu = a
+awaited_after a i next Xori = a
+awaited_after a i next Ori = a
+awaited_after a i next Andi = a
+awaited_after a i next Slli = a
+awaited_after a i next Srli = a
+awaited_after a i next Srai = a
+awaited_after a i next Add = a
+awaited_after a i next Sll = a
+awaited_after a i next Slt = a
+awaited_after a i next Sltu = a
+awaited_after a i next Xor = a
+awaited_after a i next Srl = a
+awaited_after a i next Or = a
+awaited_after a i next And = a
+awaited_after a i next Sub = a
+awaited_after a i next Sra = a
+awaited_after a i next Mul = a
+awaited_after a i next Mulh = a
+awaited_after a i next Mulhsu = a
+awaited_after a i next Mulhu = a
+awaited_after a i next Div = a
+awaited_after a i next Divu = a
+awaited_after a i next Rem = a
+awaited_after a i next Remu = a
+awaited_after a i next Fence = a
+awaited_after a i next FenceI = a
+awaited_after a i next Csrrw = a
+awaited_after a i next Csrrs = a
+awaited_after a i next Csrrc = a
+awaited_after a i next Csrrwi = a
+awaited_after a i next Csrrsi = a
+awaited_after a i next Csrrci = a
+awaited_after a i next Ecall = a
+awaited_after a i next Ebreak = a
+awaited_after a i next Mret = a
+awaited_after a i next Wfi = a
 
 -- the core after an instruction came to something
 abbrev pub issued_to : CoreState → Instr → ℕ → Op → Outcome → CoreState

@@ -1,6 +1,7 @@
 pub mod Access
 pub mod Clint
 pub mod Core
+pub mod CsrRows
 pub mod Execute
 pub mod Fetch
 pub mod GrantLaws

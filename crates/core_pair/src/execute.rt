@@ -4,13 +4,15 @@ ghost use Rattle.csr_file.specs.Table.{read_at};
 ghost use Rattle.csr_file.specs.Traps.{returned};
 ghost use Rattle.rv_exec.specs.Alu.{is_alu, is_branch};
 ghost use Rattle.core_pair.specs.Core.{busy_after, hart_of};
-ghost use Rattle.core_pair.specs.Execute.{branched, by_row, computed, counted, csr_done, csr_operand, csr_word, csr_writes, csr_written, cycles, executed, illegal, is_jump, second_operand};
+ghost use Rattle.core_pair.specs.CsrRows.{csr_operand};
+ghost use Rattle.core_pair.specs.Execute.{branched, by_row, computed, counted, csr_done, csr_written, cycles, executed, illegal, is_jump, second_operand};
 ghost use Rattle.core_pair.specs.Hart.{retires};
 
 use crate::core_state::Core;
+use crate::csr_rows::{csr_word, takes_number, writes_csr};
 use crate::phase::Phase;
 use csr_file::{Csr, Exception};
-use rv_decode::{Instr, Op};
+use rv_decode::{Instr, Op, op_row};
 use rv_exec::{alu, branch, cost, is_alu_immediate};
 use soc_bus::Width;
 
@@ -20,28 +22,6 @@ fn cycles(i: &Instr) -> u32
     ensures some { 0 < result }
 {
     cost(i.op, 0, false)
-}
-
-/// The word that a CSR row writes.
-fn csr_value(op: Op, old: u32, operand: u32) -> u32
-    ensures { result ≡ csr_word op old operand }
-{
-    match op {
-        Op::Csrrs | Op::Csrrsi => old | operand,
-        Op::Csrrc | Op::Csrrci => old & !operand,
-        _ => operand,
-    }
-}
-
-/// Whether a CSR row writes.
-fn writes_csr(i: &Instr) -> bool
-    ensures { result ≡ csr_writes i.now i.now.op }
-{
-    match i.op {
-        Op::Csrrs | Op::Csrrc => i.rs1 != 0,
-        Op::Csrrsi | Op::Csrrci => i.imm != 0,
-        _ => true,
-    }
 }
 
 impl Core {
@@ -85,11 +65,12 @@ impl Core {
     /// The operand of a CSR row.
     fn csr_operand(&self, i: &Instr) -> u32
         requires rs1 { i.now.rs1 < 32 }
-        ensures { result ≡ csr_operand (hart_of self.now) i.now i.now.op }
+        ensures { result ≡ csr_operand (hart_of self.now) i.now }
     {
-        match i.op {
-            Op::Csrrwi | Op::Csrrsi | Op::Csrrci => i.imm,
-            _ => self.register(i.rs1),
+        if takes_number(op_row(i.op).format) {
+            i.imm
+        } else {
+            self.register(i.rs1)
         }
     }
 
@@ -117,7 +98,7 @@ impl Core {
         requires next { next % 2 ≡ 0 }
         ensures { self.new ≡ busy_after self.old (csr_written (hart_of self.old) i.now word next old) }
     {
-        let value = csr_value(i.op, old, self.csr_operand(i));
+        let value = csr_word(i.op, old, self.csr_operand(i));
         if self.csrs.write(i.csr, value) {
             self.count_but(i.csr);
             self.complete(i.rd, old, next, cycles(i));

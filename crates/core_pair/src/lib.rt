@@ -10,6 +10,7 @@
 mod access;
 pub mod clint;
 pub mod core_state;
+mod csr_rows;
 mod execute;
 mod fetch;
 pub mod mailbox;

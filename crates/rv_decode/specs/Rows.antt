@@ -15,6 +15,7 @@ use Rattle.rv_decode.specs.declared.effect.CostKind.TheVariants.{Simple, ByAmoun
 use Rattle.rv_decode.specs.declared.effect.Does.{Does}
 use Rattle.rv_decode.specs.declared.effect.Does.TheVariants.{Computes, PutsUpper, Branches, Jumps, Loads, Stores, Fences, UsesCsr, Traps, Returns, Sleeps}
 use Rattle.rv_decode.specs.declared.effect.AluFunction.TheVariants.{Sum, Difference, ShiftLeft, SetLess, SetLessUnsigned, BitXor, ShiftRight, ShiftRightArithmetic, BitOr, BitAnd, Product, ProductHigh, ProductHighMixed, ProductHighUnsigned, Quotient, QuotientUnsigned, Remainder, RemainderUnsigned}
+use Rattle.rv_decode.specs.declared.effect.CsrChange.TheVariants.{Replace, SetBits, ClearBits}
 use Rattle.rv_decode.specs.declared.effect.BranchCondition.TheVariants.{Equal, NotEqual, Less, NotLess, LessUnsigned, NotLessUnsigned}
 
 -- a row: its operation, its printed name as bytes, the fields that a word of it has, each with its high and low bit and its value,
@@ -96,12 +97,12 @@ row_of Rem = table_row Rem (codes "rem") (by_funct7 0b0110011 0b110 0b0000001) R
 row_of Remu = table_row Remu (codes "remu") (by_funct7 0b0110011 0b111 0b0000001) Register Multiply (Computes RemainderUnsigned)
 row_of Fence = table_row Fence (codes "fence") (by_funct3 0b0001111 0b000) Bare Transfer Fences
 row_of FenceI = table_row FenceI (codes "fence.i") (by_funct3 0b0001111 0b001) Bare Transfer Fences
-row_of Csrrw = table_row Csrrw (codes "csrrw") (by_funct3 0b1110011 0b001) Csr System UsesCsr
-row_of Csrrs = table_row Csrrs (codes "csrrs") (by_funct3 0b1110011 0b010) Csr System UsesCsr
-row_of Csrrc = table_row Csrrc (codes "csrrc") (by_funct3 0b1110011 0b011) Csr System UsesCsr
-row_of Csrrwi = table_row Csrrwi (codes "csrrwi") (by_funct3 0b1110011 0b101) CsrNumber System UsesCsr
-row_of Csrrsi = table_row Csrrsi (codes "csrrsi") (by_funct3 0b1110011 0b110) CsrNumber System UsesCsr
-row_of Csrrci = table_row Csrrci (codes "csrrci") (by_funct3 0b1110011 0b111) CsrNumber System UsesCsr
+row_of Csrrw = table_row Csrrw (codes "csrrw") (by_funct3 0b1110011 0b001) Csr System (UsesCsr Replace)
+row_of Csrrs = table_row Csrrs (codes "csrrs") (by_funct3 0b1110011 0b010) Csr System (UsesCsr SetBits)
+row_of Csrrc = table_row Csrrc (codes "csrrc") (by_funct3 0b1110011 0b011) Csr System (UsesCsr ClearBits)
+row_of Csrrwi = table_row Csrrwi (codes "csrrwi") (by_funct3 0b1110011 0b101) CsrNumber System (UsesCsr Replace)
+row_of Csrrsi = table_row Csrrsi (codes "csrrsi") (by_funct3 0b1110011 0b110) CsrNumber System (UsesCsr SetBits)
+row_of Csrrci = table_row Csrrci (codes "csrrci") (by_funct3 0b1110011 0b111) CsrNumber System (UsesCsr ClearBits)
 row_of Ecall = table_row Ecall (codes "ecall") (by_word 0x00000073) Bare Transfer Traps
 row_of Ebreak = table_row Ebreak (codes "ebreak") (by_word 0x00100073) Bare Transfer Traps
 row_of Mret = table_row Mret (codes "mret") (by_word 0x30200073) Bare Transfer Returns

@@ -42,6 +42,17 @@ pub enum BranchCondition {
     NotLessUnsigned,
 }
 
+/// What an instruction writes to a control and status register, by the word that it holds and the operand.
+#[derive(Clone, Copy, Debug, PartialEq, Eq)]
+pub enum CsrChange {
+    /// The operand.
+    Replace,
+    /// The word with the operand's bits set.
+    SetBits,
+    /// The word with the operand's bits cleared.
+    ClearBits,
+}
+
 /// What an instruction does.
 #[derive(Clone, Copy, Debug, PartialEq, Eq)]
 pub enum Does {
@@ -59,8 +70,8 @@ pub enum Does {
     Stores,
     /// Changes nothing but pc.
     Fences,
-    /// Reads and maybe writes a control and status register.
-    UsesCsr,
+    /// Reads a control and status register and puts its word into rd, and maybe writes it.
+    UsesCsr(CsrChange),
     /// Enters a trap.
     Traps,
     /// Returns from a trap.

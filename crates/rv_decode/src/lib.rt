@@ -16,7 +16,7 @@ mod parcel;
 mod parcel_immediate;
 
 pub use decoder::decode;
-pub use effect::{AluFunction, BranchCondition, CostKind, Does};
+pub use effect::{AluFunction, BranchCondition, CostKind, CsrChange, Does};
 pub use format::Format;
 pub use instr::{Instr, Op};
 pub use op_rows::{OpRow, name, op_row};

@@ -3,7 +3,7 @@
 ghost use Rattle.std.specs.Prelude.{◌≡◌, ◌≤◌, length};
 ghost use Rattle.rv_decode.specs.Rows.{row_of, name_of};
 
-use crate::effect::{AluFunction, BranchCondition, CostKind, Does};
+use crate::effect::{AluFunction, BranchCondition, CostKind, CsrChange, Does};
 use crate::format::Format;
 use crate::instr::Op;
 use chip_base::Name;
@@ -66,6 +66,12 @@ impl OpRow {
             Does::Branches(condition),
         )
     }
+
+    fn csr(name: &'static str, format: Format, change: CsrChange) -> OpRow
+        ensures { result ≡ record { name = name.entry; format = format; cost = CostKind.System; does = Does.UsesCsr change } }
+    {
+        OpRow::new(name, format, CostKind::System, Does::UsesCsr(change))
+    }
 }
 
 /// The row of an operation.
@@ -124,12 +130,12 @@ pub fn op_row(op: Op) -> OpRow
         Op::Remu => OpRow::multiply("remu", AluFunction::RemainderUnsigned),
         Op::Fence => OpRow::new("fence", Format::Bare, CostKind::Transfer, Does::Fences),
         Op::FenceI => OpRow::new("fence.i", Format::Bare, CostKind::Transfer, Does::Fences),
-        Op::Csrrw => OpRow::new("csrrw", Format::Csr, CostKind::System, Does::UsesCsr),
-        Op::Csrrs => OpRow::new("csrrs", Format::Csr, CostKind::System, Does::UsesCsr),
-        Op::Csrrc => OpRow::new("csrrc", Format::Csr, CostKind::System, Does::UsesCsr),
-        Op::Csrrwi => OpRow::new("csrrwi", Format::CsrNumber, CostKind::System, Does::UsesCsr),
-        Op::Csrrsi => OpRow::new("csrrsi", Format::CsrNumber, CostKind::System, Does::UsesCsr),
-        Op::Csrrci => OpRow::new("csrrci", Format::CsrNumber, CostKind::System, Does::UsesCsr),
+        Op::Csrrw => OpRow::csr("csrrw", Format::Csr, CsrChange::Replace),
+        Op::Csrrs => OpRow::csr("csrrs", Format::Csr, CsrChange::SetBits),
+        Op::Csrrc => OpRow::csr("csrrc", Format::Csr, CsrChange::ClearBits),
+        Op::Csrrwi => OpRow::csr("csrrwi", Format::CsrNumber, CsrChange::Replace),
+        Op::Csrrsi => OpRow::csr("csrrsi", Format::CsrNumber, CsrChange::SetBits),
+        Op::Csrrci => OpRow::csr("csrrci", Format::CsrNumber, CsrChange::ClearBits),
         Op::Ecall => OpRow::new("ecall", Format::Bare, CostKind::Transfer, Does::Traps),
         Op::Ebreak => OpRow::new("ebreak", Format::Bare, CostKind::Transfer, Does::Traps),
         Op::Mret => OpRow::new("mret", Format::Bare, CostKind::Transfer, Does::Returns),
