@@ -1,6 +1,6 @@
 //! The chip's units, and the parts of its hub that have registers.
-ghost use Rattle.std.specs.Prelude.{◌≡◌, ◌≤◌, ◌<◌, IfSome, length};
-ghost use Rattle.chip_base.specs.UnitTable.{fast_bit, lane_name, lane_named, link_place, part_row, standard_delays, unit_named, unit_numbered, unit_row};
+ghost use Rattle.std.specs.Prelude.{◌≡◌, ◌≤◌, ◌<◌, IfSome, IsTrue, length};
+ghost use Rattle.chip_base.specs.UnitTable.{fast_bit, lane_name, lane_named, link_place, part_has, part_row, standard_delays, unit_has, unit_named, unit_numbered, unit_row};
 
 use crate::bits::bit_if;
 
@@ -30,6 +30,17 @@ pub enum HubPart {
 }
 
 impl ChipUnit {
+    /// All units, in the order of their numbers.
+    pub const ALL: [ChipUnit; 7] = [
+        ChipUnit::Uart0,
+        ChipUnit::Uart1,
+        ChipUnit::Spi,
+        ChipUnit::Gpio,
+        ChipUnit::Pwm,
+        ChipUnit::Slink,
+        ChipUnit::Wdt,
+    ];
+
     /// The unit's number, 1 to 7: the unit in events, its lane, and its bit in the register OPEN.
     pub const fn number(self) -> u8
         ensures value { result ≡ (unit_row self).number }
@@ -103,6 +114,40 @@ impl ChipUnit {
         }
     }
 
+    /// The address at which the unit's registers begin.
+    pub const fn base(self) -> u32
+        ensures { result ≡ (unit_row self).base }
+    {
+        match self {
+            ChipUnit::Uart0 => 0xfff5_0000,
+            ChipUnit::Uart1 => 0xfff6_0000,
+            ChipUnit::Spi => 0xfff8_0000,
+            ChipUnit::Gpio => 0xfffc_0000,
+            ChipUnit::Pwm => 0xfff0_0000,
+            ChipUnit::Slink => 0xffec_0000,
+            ChipUnit::Wdt => 0xfffb_0000,
+        }
+    }
+
+    const fn offsets(self) -> &'static [u32]
+        ensures { result.now ≡ (unit_row self).offsets }
+    {
+        match self {
+            ChipUnit::Uart0 | ChipUnit::Uart1 => &[0, 4],
+            ChipUnit::Spi | ChipUnit::Slink | ChipUnit::Wdt => &[0, 4, 8],
+            ChipUnit::Gpio => &[0, 4, 8, 12],
+            ChipUnit::Pwm => &[0, 4, 8, 12, 16],
+        }
+    }
+
+    /// Whether the unit has a register at an offset in bytes.
+    pub fn has(self, offset: u32) -> bool
+        ensures value { result ≡ unit_has self offset }
+        ensures to { IsTrue result → offset < 256 }
+    {
+        self.offsets().contains(&offset)
+    }
+
     /// The number of the unit's fast interrupt line. None exactly where it has none.
     pub const fn fast_line(self) -> Option<u32>
         ensures value { result ≡ (unit_row self).fast_line }
@@ -121,6 +166,44 @@ impl ChipUnit {
 }
 
 impl HubPart {
+    /// All parts of the hub that have registers.
+    pub const ALL: [HubPart; 4] = [
+        HubPart::Dma,
+        HubPart::Clint,
+        HubPart::Sysinfo,
+        HubPart::Mailbox,
+    ];
+
+    /// The address at which the part's registers begin.
+    pub const fn base(self) -> u32
+        ensures { result ≡ (part_row self).base }
+    {
+        match self {
+            HubPart::Dma => 0xffed_0000,
+            HubPart::Clint => 0xfff4_0000,
+            HubPart::Sysinfo => 0xfffe_0000,
+            HubPart::Mailbox => 0xfffe_0100,
+        }
+    }
+
+    const fn offsets(self) -> &'static [u32]
+        ensures { result.now ≡ (part_row self).offsets }
+    {
+        match self {
+            HubPart::Dma => &[0, 4, 8, 12, 16],
+            HubPart::Clint => &[0, 4, 0x4000, 0x4004, 0x4008, 0x400c, 0xbff8, 0xbffc],
+            HubPart::Sysinfo => &[0, 4, 8, 12],
+            HubPart::Mailbox => &[0, 4],
+        }
+    }
+
+    /// Whether the part has a register at an offset in bytes.
+    pub fn has(self, offset: u32) -> bool
+        ensures { result ≡ part_has self offset }
+    {
+        self.offsets().contains(&offset)
+    }
+
     /// The number of the part's fast interrupt line. None exactly where it has none.
     pub const fn fast_line(self) -> Option<u32>
         ensures value { result ≡ (part_row self).fast_line }

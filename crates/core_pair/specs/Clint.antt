@@ -1,9 +1,6 @@
 -- A definition: the timer and the software interrupts.
-use Rattle.std.specs.Prelude.{◌==◌, ℕ, ◌+◌, ◌-◌, ◌*◌, ◌%◌, ◌^◌, Bool, List, nat_le, if◌then◌else◌}
+use Rattle.std.specs.Prelude.{◌==◌, ℕ, ◌+◌, ◌-◌, ◌*◌, ◌%◌, ◌^◌, nat_le, if◌then◌else◌}
 use Rattle.chip_base.specs.Bits.{high_of, high_set, low_of, low_set}
-use Rattle.std.specs.List.{list_any}
-use Rattle.chip_base.specs.UnitTable.{part_row}
-use Rattle.chip_base.specs.declared.chip_unit.HubPart.TheVariants.{Clint}
 
 -- for each hart the bit of its software interrupt and the time at which its timer interrupt comes, and the time
 pub record ClintState : Type 0 where
@@ -13,19 +10,12 @@ pub record ClintState : Type 0 where
   pub mtimecmp1 : ℕ
   pub mtime : ℕ
 
--- the offsets of the registers: the software interrupts, the two words of each mtimecmp, low word first, and those of mtime
-abbrev pub clint_offsets : List ℕ
-clint_offsets = (part_row Clint).offsets
-
--- an offset is one of the list
-abbrev pub is_among : List ℕ → ℕ → Bool
-is_among offsets offset = list_any (λ o. o == offset) offsets
-
 -- the state at reset: no interrupt comes before the time is at its last value
 abbrev pub reset_clint : ClintState
 reset_clint = record { msip0 = 0; msip1 = 0; mtimecmp0 = 2 ^ 64 - 1; mtimecmp1 = 2 ^ 64 - 1; mtime = 0 }
 
--- what a load of a register gives
+-- what a load of a register gives: at the first two offsets the software interrupts, then the two words of each mtimecmp, low word
+-- first, and those of mtime
 abbrev pub clint_word : ClintState → ℕ → ℕ
 clint_word s offset =
     if offset == 0 then s.msip0

@@ -1,21 +1,15 @@
 -- A definition: the mailbox that starts core 1.
-use Rattle.std.specs.Prelude.{◌==◌, ℕ, List, if◌then◌else◌}
-use Rattle.chip_base.specs.UnitTable.{part_row}
-use Rattle.chip_base.specs.declared.chip_unit.HubPart.TheVariants.{Mailbox}
+use Rattle.std.specs.Prelude.{◌==◌, ℕ, if◌then◌else◌}
 
 -- where core 1 begins, and what its x2 holds then
 pub record MailboxState : Type 0 where
   pub pc : ℕ
   pub sp : ℕ
 
--- the offsets of the registers: pc and sp
-abbrev pub mailbox_offsets : List ℕ
-mailbox_offsets = (part_row Mailbox).offsets
-
 abbrev pub reset_mailbox : MailboxState
 reset_mailbox = record { pc = 0; sp = 0 }
 
--- what a load of a register gives
+-- what a load of a register gives: pc at offset 0, and sp at 4
 abbrev pub mailbox_word : MailboxState → ℕ → ℕ
 mailbox_word s offset = if offset == 0 then s.pc else s.sp
 

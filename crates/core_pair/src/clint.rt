@@ -1,6 +1,8 @@
 //! The timer and the software interrupts.
-ghost use Rattle.std.specs.Prelude.{◌≡◌, ◌==◌, ◌+◌, ◌*◌, ◌%◌, ◌^◌, ◌<◌, ◌≤◌, ◌≢◌, ◌||◌, ℕ, nat_le, IsTrue, if◌then◌else◌};
-ghost use Rattle.core_pair.specs.Clint.{clint_mip, clint_offsets, clint_stored, clint_ticked, clint_word, is_among, lines, reset_clint};
+ghost use Rattle.std.specs.Prelude.{◌≡◌, ◌==◌, ◌+◌, ◌*◌, ◌%◌, ◌^◌, ◌<◌, ◌≤◌, ◌≢◌, ◌||◌, ℕ, nat_le, if◌then◌else◌, true};
+ghost use Rattle.chip_base.specs.UnitTable.{part_has};
+ghost use Rattle.chip_base.specs.declared.chip_unit.HubPart.TheVariants as part;
+ghost use Rattle.core_pair.specs.Clint.{clint_mip, clint_stored, clint_ticked, clint_word, lines, reset_clint};
 
 use chip_base::bits::{high_word, low_word, with_high, with_low};
 use std::marker::Model;
@@ -50,7 +52,7 @@ impl Clint {
 
     /// The word at an offset, in bytes.
     pub fn load(&self, offset: u32) -> u32
-        requires { IsTrue (is_among clint_offsets offset) }
+        requires { part_has part.Clint offset ≡ true }
         ensures { result ≡ clint_word self.now offset }
     {
         match offset {
@@ -67,10 +69,10 @@ impl Clint {
 
     /// Stores a word at an offset, in bytes. A software interrupt keeps bit 0. The word at every other offset stays.
     pub fn store(&mut self, offset: u32, word: u32)
-        requires { IsTrue (is_among clint_offsets offset) }
+        requires { part_has part.Clint offset ≡ true }
         ensures state { self.new ≡ clint_stored self.old offset word }
         ensures own { clint_word self.new offset ≡ (if (offset == 0) || (offset == 4) then word % 2 else word) }
-        ensures others { (other : ℕ) → IsTrue (is_among clint_offsets other) → offset ≢ other → clint_word self.new other ≡ clint_word self.old other }
+        ensures others { (other : ℕ) → part_has part.Clint other ≡ true → offset ≢ other → clint_word self.new other ≡ clint_word self.old other }
     {
         match offset {
             0 => self.msip0 = word % 2 == 1,

@@ -1,7 +1,8 @@
 //! The mailbox that starts core 1.
-ghost use Rattle.std.specs.Prelude.{◌≡◌, ◌≢◌, ℕ, IsTrue};
-ghost use Rattle.core_pair.specs.Clint.{is_among};
-ghost use Rattle.core_pair.specs.Mailbox.{mailbox_offsets, mailbox_stored, mailbox_word, reset_mailbox};
+ghost use Rattle.std.specs.Prelude.{◌≡◌, ◌≢◌, ℕ, true};
+ghost use Rattle.chip_base.specs.UnitTable.{part_has};
+ghost use Rattle.chip_base.specs.declared.chip_unit.HubPart.TheVariants as part;
+ghost use Rattle.core_pair.specs.Mailbox.{mailbox_stored, mailbox_word, reset_mailbox};
 
 use std::marker::Model;
 
@@ -30,7 +31,7 @@ impl Mailbox {
 
     /// The word at an offset, in bytes.
     pub fn load(&self, offset: u32) -> u32
-        requires { IsTrue (is_among mailbox_offsets offset) }
+        requires { part_has part.Mailbox offset ≡ true }
         ensures { result ≡ mailbox_word self.now offset }
     {
         if offset == 0 { self.pc } else { self.sp }
@@ -38,10 +39,10 @@ impl Mailbox {
 
     /// Keeps a word at an offset, in bytes. The other word stays.
     pub fn store(&mut self, offset: u32, word: u32)
-        requires { IsTrue (is_among mailbox_offsets offset) }
+        requires { part_has part.Mailbox offset ≡ true }
         ensures state { self.new ≡ mailbox_stored self.old offset word }
         ensures own { mailbox_word self.new offset ≡ word }
-        ensures others { (other : ℕ) → IsTrue (is_among mailbox_offsets other) → offset ≢ other → mailbox_word self.new other ≡ mailbox_word self.old other }
+        ensures others { (other : ℕ) → part_has part.Mailbox other ≡ true → offset ≢ other → mailbox_word self.new other ≡ mailbox_word self.old other }
     {
         if offset == 0 {
             self.pc = word;

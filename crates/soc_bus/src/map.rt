@@ -1,35 +1,14 @@
 //! The address map.
-ghost use Rattle.std.specs.Prelude.{◌≡◌, ◌<◌, length, IfOk, Some};
+ghost use Rattle.std.specs.Prelude.{◌≡◌, ◌<◌, ◌≤◌, ◌-◌, length, IfOk, IfSome, IsTrue};
+ghost use Rattle.std.specs.List.{find};
 ghost use Rattle.chip_base.specs.UnitTable.{unit_row};
-ghost use Rattle.soc_bus.specs.Map.{Agrees, admitted, device_of, is_narrow, region_of, registers};
+ghost use Rattle.soc_bus.specs.Map.{Agrees, admitted, device_of, is_narrow, part_region, region_of};
 ghost use Rattle.soc_bus.specs.Memory.{IsSize, MemoryState};
-ghost use Rattle.soc_bus.specs.Parts.{on_page};
-ghost use Rattle.soc_bus.specs.declared.access.Region.TheVariants.{Device};
+ghost use Rattle.soc_bus.specs.Parts.{found_at, part_at, unit_at};
 
 use crate::access::{BusFault, Region, Request, Width};
 use crate::memory::DMEM;
-use chip_base::ChipUnit;
-
-// the upper halves of the devices' addresses
-const SLINK: u32 = 0xffec;
-
-const DMA: u32 = 0xffed;
-
-const PWM: u32 = 0xfff0;
-
-const CLINT: u32 = 0xfff4;
-
-const UART0: u32 = 0xfff5;
-
-const UART1: u32 = 0xfff6;
-
-const SPI: u32 = 0xfff8;
-
-const WDT: u32 = 0xfffb;
-
-const GPIO: u32 = 0xfffc;
-
-const SYSTEM: u32 = 0xfffe;
+use chip_base::{ChipUnit, HubPart};
 
 /// What a request reaches, in a chip whose memories have these numbers of bytes. Misaligned exactly where the address isn't a
 /// multiple of the width, otherwise Unmapped exactly where the map has nothing there, otherwise Narrow exactly where a store
@@ -80,43 +59,79 @@ fn region_at(addr: u32, imem: u32, dmem: u32) -> Option<Region>
 }
 
 /// The device in whose registers an address lies.
-#[tactic(auto, using(crate::proofs::Pages::device_by_halves))]
+#[tactic(auto, using(crate::proofs::Devices::device_found))]
 fn device_at(addr: u32) -> Option<Region>
     ensures { result ≡ device_of addr }
 {
-    register_at(addr / 0x1_0000, addr % 0x1_0000 / 4 * 4)
+    found_at(4 * (addr / 4))
 }
 
-/// The register whose address has these halves.
-#[tactic(auto, unfolding(crate::specs::Map::registers))]
-fn register_at(upper: u32, lower: u32) -> Option<Region>
-    ensures { result ≡ on_page upper lower registers }
+/// What a word belongs to, by its address.
+fn found_at(address: u32) -> Option<Region>
+    ensures { result ≡ found_at address }
 {
-    match (upper, lower) {
-        (SLINK, 0 | 4 | 8) => unit_register(ChipUnit::Slink, lower),
-        (DMA, 0 | 4 | 8 | 12 | 16) => Some(Region::Dma),
-        (PWM, 0 | 4 | 8 | 12 | 16) => unit_register(ChipUnit::Pwm, lower),
-        (CLINT, 0 | 4) => Some(Region::Clint),
-        (CLINT, 0x4000 | 0x4004 | 0x4008 | 0x400c) => Some(Region::Clint),
-        (CLINT, 0xbff8 | 0xbffc) => Some(Region::Clint),
-        (UART0, 0 | 4) => unit_register(ChipUnit::Uart0, lower),
-        (UART1, 0 | 4) => unit_register(ChipUnit::Uart1, lower),
-        (SPI, 0 | 4 | 8) => unit_register(ChipUnit::Spi, lower),
-        (WDT, 0 | 4 | 8) => unit_register(ChipUnit::Wdt, lower),
-        (GPIO, 0 | 4 | 8 | 12) => unit_register(ChipUnit::Gpio, lower),
-        (SYSTEM, 0 | 4 | 8 | 12) => Some(Region::Sysinfo),
-        (SYSTEM, 0x100 | 0x104) => Some(Region::Mailbox),
-        _ => None,
+    match unit_found(address, &ChipUnit::ALL) {
+        Some(unit) => Some(Region::Device {
+            unit: unit.number(),
+            reg: (address - unit.base()) as u8,
+        }),
+        None => match part_found(address, &HubPart::ALL) {
+            Some(part) => Some(part_region(part)),
+            None => None,
+        },
     }
 }
 
-/// A register of a unit.
-fn unit_register(unit: ChipUnit, reg: u32) -> Option<Region>
-    requires { reg < 256 }
-    ensures { result ≡ Some (Device (unit_row unit).number reg) }
+/// Whether a unit has a register at an address.
+fn has_unit(address: u32, unit: ChipUnit) -> bool
+    ensures value { result ≡ unit_at address unit }
+    ensures base { IsTrue result → (unit_row unit).base ≤ address }
+    ensures small { IsTrue result → address - (unit_row unit).base < 256 }
 {
-    Some(Region::Device {
-        unit: unit.number(),
-        reg: reg as u8,
-    })
+    address >= unit.base() && unit.has(address - unit.base())
+}
+
+/// The first of these units that has a register at an address.
+fn unit_found(address: u32, units: &[ChipUnit]) -> Option<ChipUnit>
+    ensures value { result ≡ find (unit_at address) units.now }
+    ensures base { IfSome result (λ unit. (unit_row unit).base ≤ address) }
+    ensures small { IfSome result (λ unit. address - (unit_row unit).base < 256) }
+{
+    for unit in units {
+        if has_unit(address, *unit) {
+            return Some(*unit);
+        }
+    }
+    None
+}
+
+/// Whether a part of the hub has a register at an address.
+fn has_part(address: u32, part: HubPart) -> bool
+    ensures { result ≡ part_at address part }
+{
+    address >= part.base() && part.has(address - part.base())
+}
+
+/// The first of these parts of the hub that has a register at an address.
+fn part_found(address: u32, parts: &[HubPart]) -> Option<HubPart>
+    ensures { result ≡ find (part_at address) parts.now }
+{
+    for part in parts {
+        if has_part(address, *part) {
+            return Some(*part);
+        }
+    }
+    None
+}
+
+/// Where an access to a part of the hub goes.
+fn part_region(part: HubPart) -> Region
+    ensures { result ≡ part_region part }
+{
+    match part {
+        HubPart::Dma => Region::Dma,
+        HubPart::Clint => Region::Clint,
+        HubPart::Sysinfo => Region::Sysinfo,
+        HubPart::Mailbox => Region::Mailbox,
+    }
 }
