@@ -26,7 +26,7 @@ use Rattle.unit_fronts.specs.SerialFront.{SerialKind, serial_loaded, serial_stor
 use Rattle.unit_fronts.specs.SpiFront.{spi_kind}
 use Rattle.unit_fronts.specs.UartFront.{uart_kind}
 use Rattle.unit_fronts.proofs.Counts.{loads, spends}
-use Rattle.chip_base.specs.UnitTable.{unit_numbered}
+use Rattle.chip_base.specs.UnitTable.{link_place, unit_numbered}
 use Rattle.chip_hub.specs.Access.{accessed, accessed_by, in_clint, in_device, in_dma, in_mailbox, in_memory, in_numbered, in_region, in_sysinfo, memory_stored}
 use Rattle.chip_hub.specs.Cycle.{heard, heard_by_gpio, heard_by_pwm, hub_cycle, served, served0, served1, served2, served_to, timed, turn0, turn1, wants_of}
 use Rattle.chip_hub.specs.State.{Fronts, HubState, HubStep}
@@ -188,7 +188,7 @@ serial_access kind z p r reg None = serial_load kind.takes p reg
 serial_access kind z p r reg (Some value) = serial_store kind z p reg value
 
 -- what an access to a unit's registers does to the front of uart0
-uart0_reached : (f : Fronts) (r : Request) (unit : ChipUnit) (reg : ℕ) → ServesPort at_data f.uart0 (get_or (only_to unit (unit_down f r unit reg)) 0 None) (fronts_after f r unit reg).uart0
+uart0_reached : (f : Fronts) (r : Request) (unit : ChipUnit) (reg : ℕ) → ServesPort at_data f.uart0 (get_or (only_to unit (unit_down f r unit reg)) (link_place Uart0) None) (fronts_after f r unit reg).uart0
 uart0_reached f r Uart0 reg = serial_access uart_kind refl f.uart0 r reg r.store
 uart0_reached f r Uart1 reg = serves_nothing at_data f.uart0
 uart0_reached f r Spi reg = serves_nothing at_data f.uart0
@@ -199,14 +199,14 @@ uart0_reached f r Wdt reg = serves_nothing at_data f.uart0
 
 -- what a cycle does to the front of uart0, after the arrivals
 pub serves_uart0 : (s : HubState) (now : ℕ) (ups : List (Option Up))
-    → ServesPort at_data (heard s ups).fronts.uart0 (get_or (hub_cycle s now ups).downs 0 None) (hub_cycle s now ups).hub.fronts.uart0
-serves_uart0 = cycle_fronts (λ old new downs. ServesPort at_data old.uart0 (get_or downs 0 None) new.uart0) (record {
+    → ServesPort at_data (heard s ups).fronts.uart0 (get_or (hub_cycle s now ups).downs (link_place Uart0) None) (hub_cycle s now ups).hub.fronts.uart0
+serves_uart0 = cycle_fronts (λ old new downs. ServesPort at_data old.uart0 (get_or downs (link_place Uart0) None) new.uart0) (record {
   quiet = λ f. serves_nothing at_data f.uart0;
   device = λ s r unit reg. uart0_reached s.fronts r unit reg;
 })
 
 -- what an access to a unit's registers does to the front of uart1
-uart1_reached : (f : Fronts) (r : Request) (unit : ChipUnit) (reg : ℕ) → ServesPort at_data f.uart1 (get_or (only_to unit (unit_down f r unit reg)) 1 None) (fronts_after f r unit reg).uart1
+uart1_reached : (f : Fronts) (r : Request) (unit : ChipUnit) (reg : ℕ) → ServesPort at_data f.uart1 (get_or (only_to unit (unit_down f r unit reg)) (link_place Uart1) None) (fronts_after f r unit reg).uart1
 uart1_reached f r Uart0 reg = serves_nothing at_data f.uart1
 uart1_reached f r Uart1 reg = serial_access uart_kind refl f.uart1 r reg r.store
 uart1_reached f r Spi reg = serves_nothing at_data f.uart1
@@ -217,14 +217,14 @@ uart1_reached f r Wdt reg = serves_nothing at_data f.uart1
 
 -- what a cycle does to the front of uart1, after the arrivals
 pub serves_uart1 : (s : HubState) (now : ℕ) (ups : List (Option Up))
-    → ServesPort at_data (heard s ups).fronts.uart1 (get_or (hub_cycle s now ups).downs 1 None) (hub_cycle s now ups).hub.fronts.uart1
-serves_uart1 = cycle_fronts (λ old new downs. ServesPort at_data old.uart1 (get_or downs 1 None) new.uart1) (record {
+    → ServesPort at_data (heard s ups).fronts.uart1 (get_or (hub_cycle s now ups).downs (link_place Uart1) None) (hub_cycle s now ups).hub.fronts.uart1
+serves_uart1 = cycle_fronts (λ old new downs. ServesPort at_data old.uart1 (get_or downs (link_place Uart1) None) new.uart1) (record {
   quiet = λ f. serves_nothing at_data f.uart1;
   device = λ s r unit reg. uart1_reached s.fronts r unit reg;
 })
 
 -- what an access to a unit's registers does to the front of spi
-spi_reached : (f : Fronts) (r : Request) (unit : ChipUnit) (reg : ℕ) → ServesPort at_either_data f.spi (get_or (only_to unit (unit_down f r unit reg)) 2 None) (fronts_after f r unit reg).spi
+spi_reached : (f : Fronts) (r : Request) (unit : ChipUnit) (reg : ℕ) → ServesPort at_either_data f.spi (get_or (only_to unit (unit_down f r unit reg)) (link_place Spi) None) (fronts_after f r unit reg).spi
 spi_reached f r Uart0 reg = serves_nothing at_either_data f.spi
 spi_reached f r Uart1 reg = serves_nothing at_either_data f.spi
 spi_reached f r Spi reg = serial_access spi_kind refl f.spi r reg r.store
@@ -235,8 +235,8 @@ spi_reached f r Wdt reg = serves_nothing at_either_data f.spi
 
 -- what a cycle does to the front of spi, after the arrivals
 pub serves_spi : (s : HubState) (now : ℕ) (ups : List (Option Up))
-    → ServesPort at_either_data (heard s ups).fronts.spi (get_or (hub_cycle s now ups).downs 2 None) (hub_cycle s now ups).hub.fronts.spi
-serves_spi = cycle_fronts (λ old new downs. ServesPort at_either_data old.spi (get_or downs 2 None) new.spi) (record {
+    → ServesPort at_either_data (heard s ups).fronts.spi (get_or (hub_cycle s now ups).downs (link_place Spi) None) (hub_cycle s now ups).hub.fronts.spi
+serves_spi = cycle_fronts (λ old new downs. ServesPort at_either_data old.spi (get_or downs (link_place Spi) None) new.spi) (record {
   quiet = λ f. serves_nothing at_either_data f.spi;
   device = λ s r unit reg. spi_reached s.fronts r unit reg;
 })
@@ -278,7 +278,7 @@ pwm_access p r reg None = no_answers p.owed
 pwm_access p r reg (Some value) = pwm_store p reg value _ _ refl refl
 
 -- what an access to a unit's registers does to the answers that the front of gpio waits for
-gpio_reached : (f : Fronts) (r : Request) (unit : ChipUnit) (reg : ℕ) → ServesAnswers f.gpio.owed (get_or (only_to unit (unit_down f r unit reg)) 3 None) (fronts_after f r unit reg).gpio.owed
+gpio_reached : (f : Fronts) (r : Request) (unit : ChipUnit) (reg : ℕ) → ServesAnswers f.gpio.owed (get_or (only_to unit (unit_down f r unit reg)) (link_place Gpio) None) (fronts_after f r unit reg).gpio.owed
 gpio_reached f r Uart0 reg = no_answers f.gpio.owed
 gpio_reached f r Uart1 reg = no_answers f.gpio.owed
 gpio_reached f r Spi reg = no_answers f.gpio.owed
@@ -289,14 +289,14 @@ gpio_reached f r Wdt reg = no_answers f.gpio.owed
 
 -- what a cycle does to the fronts of gpio and pwm, after the arrivals
 pub serves_gpio : (s : HubState) (now : ℕ) (ups : List (Option Up))
-    → ServesAnswers (heard s ups).fronts.gpio.owed (get_or (hub_cycle s now ups).downs 3 None) (hub_cycle s now ups).hub.fronts.gpio.owed
-serves_gpio = cycle_fronts (λ old new downs. ServesAnswers old.gpio.owed (get_or downs 3 None) new.gpio.owed) (record {
+    → ServesAnswers (heard s ups).fronts.gpio.owed (get_or (hub_cycle s now ups).downs (link_place Gpio) None) (hub_cycle s now ups).hub.fronts.gpio.owed
+serves_gpio = cycle_fronts (λ old new downs. ServesAnswers old.gpio.owed (get_or downs (link_place Gpio) None) new.gpio.owed) (record {
   quiet = λ f. no_answers f.gpio.owed;
   device = λ s r unit reg. gpio_reached s.fronts r unit reg;
 })
 
 -- what an access to a unit's registers does to the answers that the front of pwm waits for
-pwm_reached : (f : Fronts) (r : Request) (unit : ChipUnit) (reg : ℕ) → ServesAnswers f.pwm.owed (get_or (only_to unit (unit_down f r unit reg)) 4 None) (fronts_after f r unit reg).pwm.owed
+pwm_reached : (f : Fronts) (r : Request) (unit : ChipUnit) (reg : ℕ) → ServesAnswers f.pwm.owed (get_or (only_to unit (unit_down f r unit reg)) (link_place Pwm) None) (fronts_after f r unit reg).pwm.owed
 pwm_reached f r Uart0 reg = no_answers f.pwm.owed
 pwm_reached f r Uart1 reg = no_answers f.pwm.owed
 pwm_reached f r Spi reg = no_answers f.pwm.owed
@@ -306,8 +306,8 @@ pwm_reached f r Slink reg = no_answers f.pwm.owed
 pwm_reached f r Wdt reg = no_answers f.pwm.owed
 
 pub serves_pwm : (s : HubState) (now : ℕ) (ups : List (Option Up))
-    → ServesAnswers (heard s ups).fronts.pwm.owed (get_or (hub_cycle s now ups).downs 4 None) (hub_cycle s now ups).hub.fronts.pwm.owed
-serves_pwm = cycle_fronts (λ old new downs. ServesAnswers old.pwm.owed (get_or downs 4 None) new.pwm.owed) (record {
+    → ServesAnswers (heard s ups).fronts.pwm.owed (get_or (hub_cycle s now ups).downs (link_place Pwm) None) (hub_cycle s now ups).hub.fronts.pwm.owed
+serves_pwm = cycle_fronts (λ old new downs. ServesAnswers old.pwm.owed (get_or downs (link_place Pwm) None) new.pwm.owed) (record {
   quiet = λ f. no_answers f.pwm.owed;
   device = λ s r unit reg. pwm_reached s.fronts r unit reg;
 })
