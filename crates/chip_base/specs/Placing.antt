@@ -27,7 +27,7 @@ put_all [] places = Some places
 put_all (p ∷ rest) places = option_and_then (put_all rest) (put p.1 (lane_named p.0) places)
 
 -- how many lanes stand in a group
-abbrev pub taken : Places → ℕ
-taken [] = 0
-taken (None ∷ rest) = taken rest
-taken (Some group ∷ rest) = 1 + taken rest
+abbrev pub placed : Places → ℕ
+placed [] = 0
+placed (None ∷ rest) = placed rest
+placed (Some group ∷ rest) = 1 + placed rest

@@ -2,7 +2,7 @@
 ghost use Rattle.std.specs.Prelude.{◌≡◌, ◌≤◌, ◌<◌, ◌+◌, List, IfSome, IsSomeAnd, Some, None, is_some, option_map, true, false, map, length, []};
 ghost use Rattle.chip_base.specs.Groups.{AreNumbersOf, IsGrouping, Text, all_some, each_once, groups_of, named_groups, numbered, pieces, text_of};
 ghost use Rattle.chip_base.specs.UnitTable.{lane_named};
-ghost use Rattle.chip_base.specs.Placing.{none_yet, put, put_all, taken};
+ghost use Rattle.chip_base.specs.Placing.{none_yet, put, put_all, placed};
 
 use crate::chip_unit::lane_named;
 
@@ -13,10 +13,10 @@ pub struct Groups {
 }
 
 /// Puts a lane into a group. None where there is no such lane, or where it stands in a group.
-#[tactic(auto, using(crate::proofs::Places::taken_set))]
+#[tactic(auto, using(crate::proofs::Places::placed_set))]
 fn put_lane(group: u8, name: &str, mut places: [Option<u8>; 8]) -> Option<[Option<u8>; 8]>
     ensures value { result ≡ put group (lane_named name.now) places }
-    ensures counts { IfSome result (λ p. taken p ≡ taken places + 1) }
+    ensures counts { IfSome result (λ p. placed p ≡ placed places + 1) }
 {
     let lane = lane_named(name)?;
     match places[lane] {
@@ -31,7 +31,7 @@ fn put_lane(group: u8, name: &str, mut places: [Option<u8>; 8]) -> Option<[Optio
 /// Puts the lanes of a group, whose names stand between commas, into it. None where one isn't a lane, or stands in a group.
 fn put_group(group: u8, names: &str, mut places: [Option<u8>; 8]) -> Option<[Option<u8>; 8]>
     ensures value { result ≡ put_all (map (λ name. (name, group)) (pieces 44 names.now)) places }
-    ensures counts { IfSome result (λ p. taken places < taken p) }
+    ensures counts { IfSome result (λ p. placed places < placed p) }
 {
     for name in names.split(',') {
         places = put_lane(group, name, places)?;
@@ -40,7 +40,7 @@ fn put_group(group: u8, names: &str, mut places: [Option<u8>; 8]) -> Option<[Opt
 }
 
 /// The group of each lane, as far as they are named. None where the text isn't groups of lanes, or a lane stands twice.
-#[tactic(auto, using(crate::proofs::Places::taken_most))]
+#[tactic(auto, using(crate::proofs::Places::placed_most))]
 fn read_places(text: &str) -> Option<[Option<u8>; 8]>
     ensures { result ≡ put_all (numbered 0 (named_groups text.now)) none_yet }
 {

@@ -39,15 +39,15 @@ extended Half signed value = if signed then sign_extended 16 (value % 2 ^ 16) el
 extended Word signed value = value
 
 -- the exception of a refused load or store
-abbrev pub refusal : Bool → BusFault → Exception
-refusal is_store Misaligned = if is_store then StoreAddressMisaligned else LoadAddressMisaligned
-refusal is_store Unmapped = if is_store then StoreAccessFault else LoadAccessFault
-refusal is_store Narrow = if is_store then StoreAccessFault else LoadAccessFault
+abbrev pub access_exception : Bool → BusFault → Exception
+access_exception is_store Misaligned = if is_store then StoreAddressMisaligned else LoadAddressMisaligned
+access_exception is_store Unmapped = if is_store then StoreAccessFault else LoadAccessFault
+access_exception is_store Narrow = if is_store then StoreAccessFault else LoadAccessFault
 
 -- the answer to a request: the instruction retires, or the core enters a trap whose value is the address
 abbrev pub core_answered : CoreState → Request → Result ℕ BusFault → CoreState
 core_answered c r (Ok value) = busy_after c (retires (hart_of c) c.awaited.rd (extended r.width c.awaited.signed value) c.awaited.next 5)
-core_answered c r (Err fault) = busy_after c (traps (hart_of c) (cause_of (refusal (is_some r.store) fault)) r.addr)
+core_answered c r (Err fault) = busy_after c (traps (hart_of c) (cause_of (access_exception (is_some r.store) fault)) r.addr)
 
 abbrev pub granted_in : CoreState → Result ℕ BusFault → Phase → CoreState
 granted_in c answer (Want request) = core_answered c request answer

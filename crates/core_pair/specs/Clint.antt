@@ -44,9 +44,9 @@ abbrev pub clint_ticked : ClintState → ClintState
 clint_ticked s = record s { mtime = (s.mtime + 1) % 2 ^ 64 }
 
 -- bit 3 is the software interrupt, and bit 7 is set where the time has come
-abbrev pub lines : ℕ → ℕ → ℕ → ℕ
-lines msip mtimecmp mtime = msip * 2 ^ 3 + (if nat_le mtimecmp mtime then 2 ^ 7 else 0)
+abbrev pub hart_lines : ℕ → ℕ → ℕ → ℕ
+hart_lines msip mtimecmp mtime = msip * 2 ^ 3 + (if nat_le mtimecmp mtime then 2 ^ 7 else 0)
 
 -- the two bits of a hart
 abbrev pub clint_mip : ClintState → ℕ → ℕ
-clint_mip s hart = if hart == 0 then lines s.msip0 s.mtimecmp0 s.mtime else lines s.msip1 s.mtimecmp1 s.mtime
+clint_mip s hart = if hart == 0 then hart_lines s.msip0 s.mtimecmp0 s.mtime else hart_lines s.msip1 s.mtimecmp1 s.mtime

@@ -5,7 +5,7 @@ use Rattle.csr_file.specs.Causes.{cause_of}
 use Rattle.csr_file.specs.Traps.{after_retire}
 use Rattle.soc_bus.specs.declared.access.BusFault.{BusFault}
 use Rattle.soc_bus.specs.declared.access.Request.{Request}
-use Rattle.core_pair.specs.Access.{extended, refusal}
+use Rattle.core_pair.specs.Access.{extended, access_exception}
 use Rattle.core_pair.specs.Core.{CoreState}
 use Rattle.core_pair.specs.declared.phase.Phase.TheVariants.{Run}
 
@@ -25,6 +25,6 @@ AccessTraps old new r fault =
     (new.regs ≡ old.regs)
     × (new.csrs.minstret ≡ old.csrs.minstret)
     × (new.csrs.mepc ≡ old.pc)
-    × (new.csrs.mcause ≡ cause_of (refusal (is_some r.store) fault))
+    × (new.csrs.mcause ≡ cause_of (access_exception (is_some r.store) fault))
     × (new.csrs.mtval ≡ r.addr)
     × (new.phase ≡ Run 5)

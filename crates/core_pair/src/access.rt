@@ -1,7 +1,7 @@
 //! Loads and stores: the request at issue, and the grant.
 ghost use Rattle.std.specs.Prelude.{◌≡◌, ℕ, ◌%◌, ◌^◌, ◌<◌, IfErr, IfOk, IfSome, None, if◌then◌else◌};
 ghost use Rattle.soc_bus.specs.declared.access.Width.TheVariants.{Byte, Half};
-ghost use Rattle.core_pair.specs.Access.{extended, core_granted, load_awaited, load_request, refusal, store_awaited, store_request};
+ghost use Rattle.core_pair.specs.Access.{extended, core_granted, load_awaited, load_request, access_exception, store_awaited, store_request};
 ghost use Rattle.core_pair.specs.Core.{hart_of, wanted_in};
 ghost use Rattle.core_pair.specs.GrantLaws.{AccessRetires, AccessTraps};
 
@@ -50,8 +50,8 @@ fn extend(width: Width, signed: bool, value: u32) -> u32
 }
 
 /// The exception of a refused load or store.
-fn refusal(is_store: bool, fault: BusFault) -> Exception
-    ensures { result ≡ refusal is_store fault }
+fn access_exception(is_store: bool, fault: BusFault) -> Exception
+    ensures { result ≡ access_exception is_store fault }
 {
     match (fault, is_store) {
         (BusFault::Misaligned, false) => Exception::LoadAddressMisaligned,
@@ -116,7 +116,7 @@ impl Core {
                 self.count_and_complete(awaited.rd, word, awaited.next, ACCESS_CYCLES);
             }
             Err(fault) => {
-                let exception = refusal(request.store.is_some(), fault);
+                let exception = access_exception(request.store.is_some(), fault);
                 self.enter(exception.cause(), request.addr);
             },
         }

@@ -2,7 +2,7 @@
 ghost use Rattle.std.specs.Prelude.{◌≡◌, ◌==◌, ◌+◌, ◌*◌, ◌%◌, ◌^◌, ◌<◌, ◌≤◌, ◌≢◌, ◌||◌, ℕ, nat_le, if◌then◌else◌, true};
 ghost use Rattle.chip_base.specs.UnitTable.{part_has};
 ghost use Rattle.chip_base.specs.declared.chip_unit.HubPart.TheVariants as part;
-ghost use Rattle.core_pair.specs.Clint.{clint_mip, clint_stored, clint_ticked, clint_word, lines, reset_clint};
+ghost use Rattle.core_pair.specs.Clint.{clint_mip, clint_stored, clint_ticked, clint_word, hart_lines, reset_clint};
 
 use chip_base::bits::{high_word, low_word, with_high, with_low};
 use std::marker::Model;
@@ -30,7 +30,7 @@ impl Model for Clint {
 
 /// A hart's bits of mip: bit 3 is its software interrupt, and bit 7 is 1 where its time has come.
 fn line_bits(msip: bool, mtimecmp: u64, mtime: u64) -> u32
-    ensures value { result ≡ lines (if msip then 1 else 0) mtimecmp mtime }
+    ensures value { result ≡ hart_lines (if msip then 1 else 0) mtimecmp mtime }
     ensures below { result < 2 ^ 8 }
 {
     u32::from(msip) * 8 + u32::from(mtimecmp <= mtime) * 128

@@ -85,7 +85,7 @@ impl Core {
     }
 
     /// An illegal instruction.
-    fn refuse(&mut self, word: u32)
+    fn trap_illegal(&mut self, word: u32)
         ensures { self.new ≡ busy_after self.old (illegal (hart_of self.old) word) }
     {
         self.enter(Exception::IllegalInstruction.cause(), word);
@@ -103,7 +103,7 @@ impl Core {
             self.count_but(i.csr);
             self.complete(i.rd, old, next, cycles(i));
         } else {
-            self.refuse(word);
+            self.trap_illegal(word);
         }
     }
 
@@ -115,7 +115,7 @@ impl Core {
         ensures { self.new ≡ busy_after self.old (csr_done (hart_of self.old) i.now word next (read_at self.old.csrs i.now.csr mip)) }
     {
         match self.csrs.read(i.csr, mip) {
-            None => self.refuse(word),
+            None => self.trap_illegal(word),
             Some(old) => {
                 if writes_csr(i) {
                     self.write_csr(i, word, next, old);
@@ -196,7 +196,7 @@ impl Core {
         ensures { self.new ≡ executed self.old instr word length mip }
     {
         match instr {
-            None => self.refuse(word),
+            None => self.trap_illegal(word),
             Some(i) => self.by_row(&i, word, self.pc.wrapping_add(length), mip),
         }
     }

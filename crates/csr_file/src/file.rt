@@ -90,7 +90,7 @@ fn first_set(ready: u32, numbers: &[u32]) -> Option<u32>
 }
 
 /// The cause of the interrupt that is taken, where these interrupts are ready.
-fn taken(enabled: bool, ready: u32) -> Option<u32>
+fn cause_taken(enabled: bool, ready: u32) -> Option<u32>
     ensures { result ≡ (if enabled then first_cause ready else None) }
 {
     if !enabled {
@@ -273,7 +273,7 @@ impl Csrs {
         ensures none { (result ≡ None) ↔ ((enabled self.now ≡ false) ⊎ (bit_and mip self.now.mie ≡ 0)) }
     {
         let ready = mip & self.mie;
-        taken(has_bit(self.mstatus, 3), ready)
+        cause_taken(has_bit(self.mstatus, 3), ready)
     }
 
     /// Whether a bit is set in both `mip` and mie.

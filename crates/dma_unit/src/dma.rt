@@ -196,7 +196,7 @@ impl Dma {
         self.state = next_word(self.count);
     }
 
-    fn refuse(&mut self, address: u32)
+    fn end_at_fault(&mut self, address: u32)
         ensures { self.new ≡ refused_at self.old address }
     {
         self.state = DmaState::Fault;
@@ -214,11 +214,11 @@ impl Dma {
         match self.state {
             DmaState::Reading => match answer {
                 Ok(word) => self.read_word(word),
-                Err(_) => self.refuse(self.source),
+                Err(_) => self.end_at_fault(self.source),
             },
             DmaState::Writing => match answer {
                 Ok(_) => self.wrote_word(),
-                Err(_) => self.refuse(self.destination),
+                Err(_) => self.end_at_fault(self.destination),
             },
             _ => {}
         }
