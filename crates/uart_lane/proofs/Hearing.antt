@@ -85,11 +85,11 @@ run_sends r false true true p q h s = rw (p, q, h) (λ l. absurd (omega (arith, 
 run_sends r false true false p q h s = rw (p, q, h) (λ l. absurd (omega (arith, l)))
 run_sends r false false c p q h s = rw (p, q) (λ l. s (is_some_left r.left p))
 
-framed_sends : (r : Receiver) (frame : ℕ) (byte : Option ℕ) → slice_get (bytes_of r.image (current r)) r.taken ≡ byte → SendsWhileRunning r
+framed_sends : (r : Receiver) (frame : ℕ) (byte : Option ℕ) → slice_get (bytes_of r.image (current r)) r.begun_bytes ≡ byte → SendsWhileRunning r
     → SendsWhileRunning (framed r frame byte)
 framed_sends r frame None e s = s
 framed_sends r frame (Some byte) e s = λ l.
-    let w : r.taken < length (bytes_of r.image (current r)) = slice_get_within (bytes_of r.image (current r)) r.taken byte e in omega (arith, w)
+    let w : r.begun_bytes < length (bytes_of r.image (current r)) = slice_get_within (bytes_of r.image (current r)) r.begun_bytes byte e in omega (arith, w)
 
 looked_sends : (r : Receiver) (now : ℕ) (enabled : Bool) (frame : ℕ) (a : Bool) → passes r now (current r) ≡ a → eqb r.left 0 ≡ true → SendsWhileRunning r
     → SendsWhileRunning (looked r now enabled frame)
@@ -125,11 +125,11 @@ run_either r false true true p q h s = rw (p, q, h) (inr (one_less r.steps (s (i
 run_either r false true false p q h s = rw (p, q, h) (inl (refl, refl))
 run_either r false false c p q h s = rw (p, q) (inl (refl, refl))
 
-framed_either : (r : Receiver) (frame : ℕ) (byte : Option ℕ) → slice_get (bytes_of r.image (current r)) r.taken ≡ byte → eqb r.left 0 ≡ true
+framed_either : (r : Receiver) (frame : ℕ) (byte : Option ℕ) → slice_get (bytes_of r.image (current r)) r.begun_bytes ≡ byte → eqb r.left 0 ≡ true
     → StaysOrPasses r (run (framed r frame byte)).receiver
 framed_either r frame None e z = rw z (inl (refl, refl))
 framed_either r frame (Some byte) e z =
-    let w : r.taken < length (bytes_of r.image (current r)) = slice_get_within (bytes_of r.image (current r)) r.taken byte e in
+    let w : r.begun_bytes < length (bytes_of r.image (current r)) = slice_get_within (bytes_of r.image (current r)) r.begun_bytes byte e in
     run_either (framed r frame (Some byte)) _ _ _ refl refl refl (λ l. has_step r.image r.steps (omega (arith, w)))
 
 looked_either : (r : Receiver) (now : ℕ) (enabled : Bool) (frame : ℕ) (a : Bool) → passes r now (current r) ≡ a → eqb r.left 0 ≡ true
@@ -250,7 +250,7 @@ looked_passes r now enabled frame p = rw p refl
 looked_waits : (r : Receiver) (now : ℕ) (enabled : Bool) (frame : ℕ) (text : List ℕ) → passes r now (current r) ≡ false → current r ≡ Some (Expect text)
     → looked r now enabled frame ≡ r
 looked_waits r now true frame text p e =
-    rw p (ap (λ step. framed r frame (slice_get (bytes_of r.image step) r.taken)) e ∙ ap (framed r frame) (nothing_at r.taken))
+    rw p (ap (λ step. framed r frame (slice_get (bytes_of r.image step) r.begun_bytes)) e ∙ ap (framed r frame) (nothing_at r.begun_bytes))
 looked_waits r now false frame text p e = rw p refl
 
 look_by : (r : Receiver) (now : ℕ) (enabled : Bool) (frame : ℕ) (text : List ℕ) (b : Bool) → passes r now (current r) ≡ b → current r ≡ Some (Expect text)

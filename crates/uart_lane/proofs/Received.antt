@@ -31,13 +31,13 @@ drop_got n bytes b h =
     drop_more bytes n b (slice_get_within bytes n b h) ∙ ap (λ x. x ∷ drop (n + 1) bytes) (get_or_from_slice_get bytes n b b h)
 
 -- where no byte of the current step is left, those of the later steps are to come
-sent_on : (image : List ℕ) (taken : ℕ) (steps : List UartStep) → leb (length (bytes_of image (slice_get steps 0))) taken ≡ true
-    → sent_by image taken steps ≡ sent_by image 0 (drop 1 steps)
-sent_on image taken [] h = refl
-sent_on image taken (step ∷ rest) h = ap (λ bytes. bytes ++ sent_by image 0 rest) (none_after taken (bytes_of image (Some step)) h)
+sent_on : (image : List ℕ) (begun_bytes : ℕ) (steps : List UartStep) → leb (length (bytes_of image (slice_get steps 0))) begun_bytes ≡ true
+    → sent_by image begun_bytes steps ≡ sent_by image 0 (drop 1 steps)
+sent_on image begun_bytes [] h = refl
+sent_on image begun_bytes (step ∷ rest) h = ap (λ bytes. bytes ++ sent_by image 0 rest) (none_after begun_bytes (bytes_of image (Some step)) h)
 
 pub passed_keeps : (r : Receiver) → is_sent r ≡ true → not_begun r ≡ not_begun (passed r)
-passed_keeps r h = sent_on r.image r.taken r.steps h
+passed_keeps r h = sent_on r.image r.begun_bytes r.steps h
 
 pub none_first : (n : ℕ) → leb 0 n ≡ true
 none_first n = grind (arith, nat_tests)
@@ -45,16 +45,16 @@ none_first n = grind (arith, nat_tests)
 -- a step that passes at a look has no byte left
 pub look_sent : (r : Receiver) (now : ℕ) (step : Option UartStep) → current r ≡ step → passes r now step ≡ true → is_sent r ≡ true
 look_sent r now None e h = absurd (false≢true h)
-look_sent r now (Some (At cycle)) e h = rw e (none_first r.taken)
-look_sent r now (Some (Expect text)) e h = rw e (none_first r.taken)
+look_sent r now (Some (At cycle)) e h = rw e (none_first r.begun_bytes)
+look_sent r now (Some (Expect text)) e h = rw e (none_first r.begun_bytes)
 look_sent r now (Some (Send text)) e h = h
 look_sent r now (Some Image) e h = h
 
 -- a byte whose frame begins is the first of those that had none
-framed_on : (image : List ℕ) (taken byte : ℕ) (steps : List UartStep) → slice_get (bytes_of image (slice_get steps 0)) taken ≡ Some byte
-    → sent_by image taken steps ≡ byte ∷ sent_by image (taken + 1) steps
-framed_on image taken byte [] h = absurd (false≢true (ap is_some h))
-framed_on image taken byte (step ∷ rest) h = ap (λ bytes. bytes ++ sent_by image 0 rest) (drop_got taken (bytes_of image (Some step)) byte h)
+framed_on : (image : List ℕ) (begun_bytes byte : ℕ) (steps : List UartStep) → slice_get (bytes_of image (slice_get steps 0)) begun_bytes ≡ Some byte
+    → sent_by image begun_bytes steps ≡ byte ∷ sent_by image (begun_bytes + 1) steps
+framed_on image begun_bytes byte [] h = absurd (false≢true (ap is_some h))
+framed_on image begun_bytes byte (step ∷ rest) h = ap (λ bytes. bytes ++ sent_by image 0 rest) (drop_got begun_bytes (bytes_of image (Some step)) byte h)
 
 -- the parts of a receiver's cycle
 
@@ -66,9 +66,9 @@ pub not_zero : (n : ℕ) → 0 < n → eqb n 0 ≡ false
 not_zero n h = grind (arith, nat_tests)
 
 framed_keeps : (r : Receiver) (frame : ℕ) (byte : Option ℕ) → eqb r.left 0 ≡ true → 0 < frame
-    → slice_get (bytes_of r.image (current r)) r.taken ≡ byte → to_come (framed r frame byte) ≡ to_come r
+    → slice_get (bytes_of r.image (current r)) r.begun_bytes ≡ byte → to_come (framed r frame byte) ≡ to_come r
 framed_keeps r frame None z f e = refl
-framed_keeps r frame (Some byte) z f e = rw (not_zero frame f, z) (sym (framed_on r.image r.taken byte r.steps e))
+framed_keeps r frame (Some byte) z f e = rw (not_zero frame f, z) (sym (framed_on r.image r.begun_bytes byte r.steps e))
 
 looked_keeps : (r : Receiver) (now : ℕ) (enabled : Bool) (frame : ℕ) (a : Bool) → passes r now (current r) ≡ a → eqb r.left 0 ≡ true → 0 < frame
     → to_come (looked r now enabled frame) ≡ to_come r
@@ -136,9 +136,9 @@ look_steps : (r : Receiver) (now : ℕ) (enabled : Bool) (frame : ℕ) (a : Bool
     → PassesOne r.steps (run (looked r now enabled frame)).receiver.steps
 look_steps r now enabled frame true p z = inr (rw p (run_idle (passed r) z))
 look_steps r now true frame false p z =
-    rw p (subst (λ steps. PassesOne steps (run (framed r frame (slice_get (bytes_of r.image (current r)) r.taken))).receiver.steps)
-    (framed_steps r frame (slice_get (bytes_of r.image (current r)) r.taken))
-    (run_steps (framed r frame (slice_get (bytes_of r.image (current r)) r.taken)) _ _ _ refl refl refl))
+    rw p (subst (λ steps. PassesOne steps (run (framed r frame (slice_get (bytes_of r.image (current r)) r.begun_bytes))).receiver.steps)
+    (framed_steps r frame (slice_get (bytes_of r.image (current r)) r.begun_bytes))
+    (run_steps (framed r frame (slice_get (bytes_of r.image (current r)) r.begun_bytes)) _ _ _ refl refl refl))
 look_steps r now false frame false p z = rw p (run_steps r _ _ _ refl refl refl)
 
 ready_steps : (r : Receiver) (now : ℕ) (enabled : Bool) (frame : ℕ) (a : Bool) → eqb r.left 0 ≡ a

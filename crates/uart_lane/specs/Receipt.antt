@@ -16,7 +16,7 @@ byte_at s t downs k = byte_up (given_after uart_cycle s t downs k).up
 pub record HasNext (s : UartState) (byte : ℕ) : Type 0 where
   pub enabled : s.enabled ≡ true
   pub no_frame : s.receiver.left ≡ 0
-  pub next : slice_get (bytes_of s.receiver.image (current s.receiver)) s.receiver.taken ≡ Some byte
+  pub next : slice_get (bytes_of s.receiver.image (current s.receiver)) s.receiver.begun_bytes ≡ Some byte
 
 -- no message comes in the cycle t, in which the frame begins, and no Reset while it runs
 pub record LetsReceive (frame t : ℕ) (downs : ℕ → Option Down) : Type 0 where

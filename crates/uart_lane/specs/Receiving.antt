@@ -32,7 +32,7 @@ bytes_of image (Some Image) = image
 
 -- no byte of the current step is left
 abbrev pub is_sent : Receiver → Bool
-is_sent r = nat_le (length (bytes_of r.image (current r))) r.taken
+is_sent r = nat_le (length (bytes_of r.image (current r))) r.begun_bytes
 
 -- whether a look at this step passes it
 abbrev pub passes : Receiver → ℕ → Option UartStep → Bool
@@ -44,18 +44,18 @@ passes r now (Some Image) = is_sent r
 
 -- the next step becomes the current one, and nothing was heard since
 abbrev pub passed : Receiver → Receiver
-passed r = record r { steps = drop 1 r.steps; taken = 0; heard = [] }
+passed r = record r { steps = drop 1 r.steps; begun_bytes = 0; heard = [] }
 
 -- the frame of the current step's next byte begins, if there is one
 abbrev pub framed : Receiver → ℕ → Option ℕ → Receiver
 framed r frame None = r
-framed r frame (Some byte) = record r { taken = r.taken + 1; left = frame; byte = byte }
+framed r frame (Some byte) = record r { begun_bytes = r.begun_bytes + 1; left = frame; byte = byte }
 
 -- a look at the script: the current step passes, or its next byte begins where the unit is enabled
 abbrev pub looked : Receiver → ℕ → Bool → ℕ → Receiver
 looked r now enabled frame =
     if passes r now (current r) then passed r
-    else if enabled then framed r frame (slice_get (bytes_of r.image (current r)) r.taken)
+    else if enabled then framed r frame (slice_get (bytes_of r.image (current r)) r.begun_bytes)
     else r
 
 -- the script is looked at where no frame runs

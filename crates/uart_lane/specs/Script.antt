@@ -11,12 +11,12 @@ use Rattle.uart_lane.specs.State.{UartState}
 
 -- all bytes that these steps send, one step after another, without the first ones of the first step
 abbrev pub sent_by : List ℕ → ℕ → List UartStep → List ℕ
-sent_by image taken [] = []
-sent_by image taken (step ∷ rest) = drop taken (bytes_of image (Some step)) ++ sent_by image 0 rest
+sent_by image begun_bytes [] = []
+sent_by image begun_bytes (step ∷ rest) = drop begun_bytes (bytes_of image (Some step)) ++ sent_by image 0 rest
 
 -- the bytes of the script that had no frame
 abbrev pub not_begun : Receiver → List ℕ
-not_begun r = sent_by r.image r.taken r.steps
+not_begun r = sent_by r.image r.begun_bytes r.steps
 
 -- the byte of the frame that runs, if one runs
 abbrev pub in_frame : Receiver → List ℕ

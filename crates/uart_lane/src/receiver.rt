@@ -12,7 +12,7 @@ pub(crate) struct Receiver {
     steps: Steps0,
     place: usize,
     image: Bytes,
-    taken: usize,
+    begun_bytes: usize,
     heard: ArrayVec<u8, 64>,
     left: u32,
     byte: u8,
@@ -25,7 +25,7 @@ impl Model for Receiver {
 
     ghost Value = { state.Receiver };
 
-    ghost view = { λ r. record { steps = drop r.place r.steps; image = r.image; taken = r.taken; heard = r.heard.items; left = r.left; byte = r.byte } };
+    ghost view = { λ r. record { steps = drop r.place r.steps; image = r.image; begun_bytes = r.begun_bytes; heard = r.heard.items; left = r.left; byte = r.byte } };
 
     ghost invariant = { λ r. (r.place ≤ length r.steps) × (array_vec_len r.heard ≤ 64) };
 }
@@ -44,7 +44,7 @@ impl Receiver {
             steps,
             place: 0,
             image,
-            taken: 0,
+            begun_bytes: 0,
             heard: ArrayVec::new(),
             left: 0,
             byte: 0,
@@ -91,7 +91,7 @@ impl Receiver {
     fn is_sent(&self) -> bool
         ensures { result ≡ is_sent self.now }
     {
-        self.bytes().len() <= self.taken
+        self.bytes().len() <= self.begun_bytes
     }
 
     fn passes(&self, now: Cycle) -> bool
@@ -110,7 +110,7 @@ impl Receiver {
     fn pass(&mut self)
         ensures { self.new ≡ passed self.old }
     {
-        self.taken = 0;
+        self.begun_bytes = 0;
         self.heard.clear();
         if self.place < self.steps.as_slice().len() {
             self.place += 1;
@@ -118,12 +118,12 @@ impl Receiver {
     }
 
     fn begin(&mut self, frame: u32)
-        ensures { self.new ≡ framed self.old frame (slice_get (bytes_of self.old.image (current self.old)) self.old.taken) }
+        ensures { self.new ≡ framed self.old frame (slice_get (bytes_of self.old.image (current self.old)) self.old.begun_bytes) }
     {
-        if let Some(byte) = self.bytes().get(self.taken) {
+        if let Some(byte) = self.bytes().get(self.begun_bytes) {
             let byte = *byte;
             self.byte = byte;
-            self.taken += 1;
+            self.begun_bytes += 1;
             self.left = frame;
         }
     }
