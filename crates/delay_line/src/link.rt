@@ -39,6 +39,7 @@ impl<M: Copy> Model for DelayLine<M> {
 }
 
 /// The message that arrives in a cycle.
+#[inline(always)]
 fn arriving_in<M: Copy>(queue: &VecDeque<Timed<M>>, now: Cycle) -> Option<M>
     ensures { result ≡ arriving_of queue.now.items now }
 {
@@ -55,6 +56,7 @@ fn arriving_in<M: Copy>(queue: &VecDeque<Timed<M>>, now: Cycle) -> Option<M>
 }
 
 /// Takes off the message that arrives in this cycle, if one does.
+#[inline(always)]
 fn take_arrived<M: Copy>(queue: &mut VecDeque<Timed<M>>, now: Cycle)
     ensures items { queue.new.items ≡ left_after queue.old.items now }
     ensures capacity { deque_capacity queue.new ≡ deque_capacity queue.old }
@@ -87,6 +89,7 @@ impl<M: Copy> DelayLine<M> {
     }
 
     /// The message that arrives in this cycle.
+    #[inline(always)]
     #[tactic(auto, using(crate::proofs::Places::arriving_first))]
     pub fn arriving(&self) -> Option<M>
         ensures { result ≡ link_first self.now.places }
@@ -95,6 +98,7 @@ impl<M: Copy> DelayLine<M> {
     }
 
     /// Ends the cycle, in which `sent` was sent. It arrives as many cycles later as the link has places, which is its delay.
+    #[inline(always)]
     #[tactic(auto, using(crate::proofs::Places::stays_some, crate::proofs::Places::stays_none, crate::proofs::Places::moved_some, crate::proofs::Places::moved_none, crate::proofs::Places::room, crate::proofs::Arrival::same_places, crate::proofs::Arrival::arrives_on_time))]
     pub fn step(&mut self, sent: Option<M>)
         requires { self.old.cycle + 4096 < 2 ^ 64 }

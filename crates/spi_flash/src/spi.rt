@@ -89,6 +89,7 @@ impl Spi {
         }
     }
 
+    #[inline(never)]
     fn set(&mut self, reg: u8, word: u32)
         ensures { self.new ≡ set_in self.old reg word }
     {
@@ -100,6 +101,7 @@ impl Spi {
         }
     }
 
+    #[inline(never)]
     fn reset(&mut self)
         ensures { self.new ≡ (reset self.old).unit }
     {
@@ -184,14 +186,13 @@ impl Spi {
         }
     }
 
-    fn work(&mut self) -> UnitOut
+    /// The work of a cycle in which an entry waits or an operation is under way.
+    #[inline(never)]
+    fn go_on(&mut self) -> UnitOut
         ensures unit { self.new ≡ (engine self.old).unit }
         ensures up { result.up ≡ (engine self.old).up }
         ensures event { result.event ≡ None }
     {
-        if self.queue.is_empty() && !self.flash.is_busy() {
-            return UnitOut::QUIET;
-        }
         self.flash.cycle();
         match self.queue.first() {
             None => UnitOut::QUIET,
@@ -206,11 +207,25 @@ impl Spi {
         }
     }
 
+    #[inline(always)]
+    fn work(&mut self) -> UnitOut
+        ensures unit { self.new ≡ (engine self.old).unit }
+        ensures up { result.up ≡ (engine self.old).up }
+        ensures event { result.event ≡ None }
+    {
+        if self.queue.is_empty() && !self.flash.is_busy() {
+            UnitOut::QUIET
+        } else {
+            self.go_on()
+        }
+    }
+
     /// One cycle: takes the message that arrives in it, if there is one, then the operation of the flash that is under way loses a
     /// cycle, and then the first entry is done or goes on. Gives what leaves the unit.
     ///
     /// In the cycle in which an entry is done its credit goes up, and of a byte the flash's answer as a word beside it. In the cycle
     /// of a Reset only its answer, done, goes up. There are no events.
+    #[inline(always)]
     #[tactic(auto, unfolding(crate::specs::SpiCycle::spi_cycle), using(crate::proofs::SpiCounts::counts_queue, crate::proofs::SpiCounts::keeps_entries, crate::proofs::UnitFlash::steps_as))]
     pub fn cycle(&mut self, now: Cycle, down: Option<Down>) -> UnitOut
         ensures unit { self.new ≡ (spi_cycle self.old now down).unit }

@@ -93,6 +93,7 @@ impl Uart {
         }
     }
 
+    #[inline(never)]
     fn set(&mut self, reg: u8, word: u32)
         ensures { self.new ≡ set_in self.old reg word }
     {
@@ -103,6 +104,7 @@ impl Uart {
         }
     }
 
+    #[inline(never)]
     fn reset(&mut self)
         ensures { self.new ≡ uart_reset self.old.number self.old.receiver }
     {
@@ -178,12 +180,14 @@ impl Uart {
     }
 
     /// Whether a cycle without a message leaves the unit as it is.
+    #[inline(always)]
     fn is_idle(&self) -> bool
         ensures { result ≡ is_idle self.now }
     {
         self.left == 0 && self.fifo.is_empty() && self.receiver.is_done()
     }
 
+    #[inline(never)]
     fn send_and_receive(&mut self, now: Cycle) -> UnitOut
         ensures unit { self.new ≡ (received (sent (begun self.old) now) now).unit }
         ensures up { result.up ≡ (received (sent (begun self.old) now) now).up }
@@ -200,6 +204,7 @@ impl Uart {
     }
 
     /// The work of a cycle, which an idle unit is spared.
+    #[inline(always)]
     #[tactic(auto, using(crate::proofs::Idle::idle_unit, crate::proofs::Idle::idle_up, crate::proofs::Idle::idle_event))]
     fn work(&mut self, now: Cycle) -> UnitOut
         ensures unit { self.new ≡ (received (sent (begun self.old) now) now).unit }
@@ -220,6 +225,7 @@ impl Uart {
     /// In the last cycle of a frame that is sent, its byte leaves: its credit goes up, and the event `Tx` has the byte as its
     /// value. In the last cycle of a frame that is received, its byte goes up as a word, in the same message where a credit goes
     /// up too. In the cycle of a Reset only its answer, done, goes up, and there is no event.
+    #[inline(always)]
     #[tactic(auto, unfolding(crate::specs::Cycle::uart_cycle))]
     pub fn cycle(&mut self, now: Cycle, down: Option<Down>) -> UnitOut
         ensures unit { self.new ≡ (uart_cycle self.old now down).unit }
