@@ -46,6 +46,7 @@ impl Links {
     }
 
     /// The message that arrives at the unit in this cycle.
+    #[inline(always)]
     pub(crate) fn at_unit(&self) -> Option<Down>
         ensures { result ≡ link_first self.now.down }
     {
@@ -53,6 +54,7 @@ impl Links {
     }
 
     /// The message that arrives at the front in this cycle.
+    #[inline(always)]
     pub(crate) fn at_front(&self) -> Option<Up>
         ensures { result ≡ link_first self.now.up }
     {
@@ -60,6 +62,7 @@ impl Links {
     }
 
     /// Ends the cycle, in which these messages were sent.
+    #[inline(always)]
     pub(crate) fn step(&mut self, down: Option<Down>, up: Option<Up>)
         requires { self.old.cycle + 4096 < 2 ^ 64 }
         ensures { self.new ≡ record { cycle = suc self.old.cycle; down = link_moved self.old.down down; up = link_moved self.old.up up } }
