@@ -5,6 +5,8 @@ use Rattle.std.specs.List.{flat_map, list_all}
 use Rattle.text_fields.specs.Fields.{Text, skip}
 use Rattle.text_fields.specs.Lines.{lines, pieces, trimmed}
 use Rattle.text_fields.proofs.LinesRound.{is_shown, lines_line}
+use Rattle.chip_base.specs.UnitTable.{unit_row}
+use Rattle.chip_base.specs.declared.chip_unit.ChipUnit.TheVariants as unit
 use Rattle.chip_base.specs.Steps.{are_pins, are_pins_from, is_pin, is_step}
 use Rattle.chip_base.specs.declared.script.PinStep.{PinStep}
 use Rattle.chip_base.specs.declared.script.Script.{Script}
@@ -47,26 +49,26 @@ pins_read (p ∷ ps) before u v rest r valid more n =
     (pins_read ps (before ++ p ∷ []) u v rest r valid_more (λ m. ap (λ b. read_lines (lines rest) m (script b u v)) (one_more before p ps) ∙ more m) (n + 1))
 
 uart0_steps : (us before : List UartStep) (p : List PinStep) (v : List UartStep) (rest : Text) (r : Result Script ScriptFault) → list_all is_step us ≡ true → list_all has_bytes us ≡ true
-    → ((m : ℕ) → read_lines (lines rest) m (script p (before ++ us) v) ≡ r) → (n : ℕ) → read_lines (lines (flat_map (step_line (codes "uart0")) us ++ rest)) n (script p before v) ≡ r
+    → ((m : ℕ) → read_lines (lines rest) m (script p (before ++ us) v) ≡ r) → (n : ℕ) → read_lines (lines (flat_map (step_line (unit_row unit.Uart0).name) us ++ rest)) n (script p before v) ≡ r
 uart0_steps [] before p v rest r steps bytes more n = ap (λ b. read_lines (lines rest) n (script p b v)) (sym (append-nil before)) ∙ more n
 uart0_steps (u ∷ us) before p v rest r steps bytes more n =
     let is = left (is_step u) _ steps in
     let has = left (has_bytes u) _ bytes in
-    let line : with_line (script p before v) (codes "uart0" ++ step_text u) ≡ Ok (script p (before ++ u ∷ []) v) = ap (with_added (script p before v)) (uart0_read (last_cycle p) u is has) in
-    one_line (codes "uart0" ++ step_text u) (flat_map (step_line (codes "uart0")) us) rest (script p before v) (script p (before ++ u ∷ []) v) r n
-    (joined (codes "uart0") (step_text u) refl (step_shown u is has)) line
+    let line : with_line (script p before v) ((unit_row unit.Uart0).name ++ step_text u) ≡ Ok (script p (before ++ u ∷ []) v) = ap (with_added (script p before v)) (uart0_read (last_cycle p) u is has) in
+    one_line ((unit_row unit.Uart0).name ++ step_text u) (flat_map (step_line (unit_row unit.Uart0).name) us) rest (script p before v) (script p (before ++ u ∷ []) v) r n
+    (joined (unit_row unit.Uart0).name (step_text u) refl (step_shown u is has)) line
     (uart0_steps us (before ++ u ∷ []) p v rest r (right (is_step u) _ steps) (right (has_bytes u) _ bytes)
     (λ m. ap (λ b. read_lines (lines rest) m (script p b v)) (one_more before u us) ∙ more m) (n + 1))
 
 uart1_steps : (us before : List UartStep) (p : List PinStep) (v : List UartStep) (rest : Text) (r : Result Script ScriptFault) → list_all is_step us ≡ true → list_all has_bytes us ≡ true
-    → ((m : ℕ) → read_lines (lines rest) m (script p v (before ++ us)) ≡ r) → (n : ℕ) → read_lines (lines (flat_map (step_line (codes "uart1")) us ++ rest)) n (script p v before) ≡ r
+    → ((m : ℕ) → read_lines (lines rest) m (script p v (before ++ us)) ≡ r) → (n : ℕ) → read_lines (lines (flat_map (step_line (unit_row unit.Uart1).name) us ++ rest)) n (script p v before) ≡ r
 uart1_steps [] before p v rest r steps bytes more n = ap (λ b. read_lines (lines rest) n (script p v b)) (sym (append-nil before)) ∙ more n
 uart1_steps (u ∷ us) before p v rest r steps bytes more n =
     let is = left (is_step u) _ steps in
     let has = left (has_bytes u) _ bytes in
-    let line : with_line (script p v before) (codes "uart1" ++ step_text u) ≡ Ok (script p v (before ++ u ∷ [])) = ap (with_added (script p v before)) (uart1_read (last_cycle p) u is has) in
-    one_line (codes "uart1" ++ step_text u) (flat_map (step_line (codes "uart1")) us) rest (script p v before) (script p v (before ++ u ∷ [])) r n
-    (joined (codes "uart1") (step_text u) refl (step_shown u is has)) line
+    let line : with_line (script p v before) ((unit_row unit.Uart1).name ++ step_text u) ≡ Ok (script p v (before ++ u ∷ [])) = ap (with_added (script p v before)) (uart1_read (last_cycle p) u is has) in
+    one_line ((unit_row unit.Uart1).name ++ step_text u) (flat_map (step_line (unit_row unit.Uart1).name) us) rest (script p v before) (script p v (before ++ u ∷ [])) r n
+    (joined (unit_row unit.Uart1).name (step_text u) refl (step_shown u is has)) line
     (uart1_steps us (before ++ u ∷ []) p v rest r (right (is_step u) _ steps) (right (has_bytes u) _ bytes)
     (λ m. ap (λ b. read_lines (lines rest) m (script p v b)) (one_more before u us) ∙ more m) (n + 1))
 
@@ -79,19 +81,19 @@ script_round : (p : List PinStep) (u v : List UartStep) → are_pins p ≡ true 
     → script_of (script_text (script p u v)) ≡ Ok (script p u v)
 script_round p u v pins steps0 steps1 bytes0 bytes1 =
     let third = uart1_steps v [] p u [] (Ok (script p u v)) steps1 bytes1 (λ m. last_line (script p u v) m) in
-    let last : (n : ℕ) → read_lines (lines (flat_map (step_line (codes "uart1")) v)) n (script p u []) ≡ Ok (script p u v)
-    = λ n. ap (λ t. read_lines (lines t) n (script p u [])) (sym (append-nil (flat_map (step_line (codes "uart1")) v))) ∙ third n in
-    pins_read p [] [] [] (flat_map (step_line (codes "uart0")) u ++ flat_map (step_line (codes "uart1")) v) (Ok (script p u v)) pins
-    (uart0_steps u [] p [] (flat_map (step_line (codes "uart1")) v) (Ok (script p u v)) steps0 bytes0 last) 1
+    let last : (n : ℕ) → read_lines (lines (flat_map (step_line (unit_row unit.Uart1).name) v)) n (script p u []) ≡ Ok (script p u v)
+    = λ n. ap (λ t. read_lines (lines t) n (script p u [])) (sym (append-nil (flat_map (step_line (unit_row unit.Uart1).name) v))) ∙ third n in
+    pins_read p [] [] [] (flat_map (step_line (unit_row unit.Uart0).name) u ++ flat_map (step_line (unit_row unit.Uart1).name) v) (Ok (script p u v)) pins
+    (uart0_steps u [] p [] (flat_map (step_line (unit_row unit.Uart1).name) v) (Ok (script p u v)) steps0 bytes0 last) 1
 
-pub printed_round : (text : Text) (s : Script) (p : List PinStep) (u v : List UartStep) → text ≡ flat_map pin_line p ++ (flat_map (step_line (codes "uart0")) u ++ flat_map (step_line (codes "uart1")) v)
+pub printed_round : (text : Text) (s : Script) (p : List PinStep) (u v : List UartStep) → text ≡ flat_map pin_line p ++ (flat_map (step_line (unit_row unit.Uart0).name) u ++ flat_map (step_line (unit_row unit.Uart1).name) v)
     → p ≡ s.pins → u ≡ s.uart0 → v ≡ s.uart1 → are_pins s.pins ≡ true → list_all is_step s.uart0 ≡ true → list_all is_step s.uart1 ≡ true
     → list_all has_bytes u ≡ true → list_all has_bytes v ≡ true → script_of text ≡ Ok s
 printed_round text s p u v is hp hu hv pins steps0 steps1 bytes0 bytes1 =
     let b0 : list_all has_bytes s.uart0 ≡ true = ap (list_all has_bytes) (sym hu) ∙ bytes0 in
     let b1 : list_all has_bytes s.uart1 ≡ true = ap (list_all has_bytes) (sym hv) ∙ bytes1 in
     let same : text ≡ script_text s = is
-    ∙ ap (λ x. flat_map pin_line x ++ (flat_map (step_line (codes "uart0")) u ++ flat_map (step_line (codes "uart1")) v)) hp
-    ∙ ap (λ x. flat_map pin_line s.pins ++ (flat_map (step_line (codes "uart0")) x ++ flat_map (step_line (codes "uart1")) v)) hu
-    ∙ ap (λ x. flat_map pin_line s.pins ++ (flat_map (step_line (codes "uart0")) s.uart0 ++ flat_map (step_line (codes "uart1")) x)) hv in
+    ∙ ap (λ x. flat_map pin_line x ++ (flat_map (step_line (unit_row unit.Uart0).name) u ++ flat_map (step_line (unit_row unit.Uart1).name) v)) hp
+    ∙ ap (λ x. flat_map pin_line s.pins ++ (flat_map (step_line (unit_row unit.Uart0).name) x ++ flat_map (step_line (unit_row unit.Uart1).name) v)) hu
+    ∙ ap (λ x. flat_map pin_line s.pins ++ (flat_map (step_line (unit_row unit.Uart0).name) s.uart0 ++ flat_map (step_line (unit_row unit.Uart1).name) x)) hv in
     ap script_of same ∙ script_round s.pins s.uart0 s.uart1 pins steps0 steps1 b0 b1

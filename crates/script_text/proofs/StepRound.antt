@@ -8,6 +8,8 @@ use Rattle.hex.proofs.HexLemmas.{IsDigits-lower_digits, decode_of-encode_lower, 
 use Rattle.text_fields.specs.Fields.{Text, after, field, is_blank, is_part, skip}
 use Rattle.text_fields.specs.Quoted.{quoted, quoted_text, turn}
 use Rattle.text_fields.proofs.FieldRound.{after_run, field_run, skip_run}
+use Rattle.chip_base.specs.UnitTable.{unit_row}
+use Rattle.chip_base.specs.declared.chip_unit.ChipUnit.TheVariants as unit
 use Rattle.chip_base.specs.Steps.{is_step}
 use Rattle.chip_base.specs.declared.script.UartStep.{UartStep}
 use Rattle.chip_base.specs.declared.script.UartStep.TheVariants as step
@@ -118,20 +120,20 @@ blank_first (step.Send []) = (codes "send \"\"", refl)
 blank_first (step.Send (b ∷ more)) = (codes "hex " ++ encode_lower (b ∷ more), refl)
 blank_first step.Image = (codes "image", refl)
 
-first_line : (last : ℕ) (x : Text) → line_of last (codes "uart0" ++ (32 ∷ x)) ≡ with_item item.Uart0 (uart_of (skip (32 ∷ x)))
+first_line : (last : ℕ) (x : Text) → line_of last ((unit_row unit.Uart0).name ++ (32 ∷ x)) ≡ with_item item.Uart0 (uart_of (skip (32 ∷ x)))
 unfolding line_of field after skip
 first_line last x = refl
 
-second_line : (last : ℕ) (x : Text) → line_of last (codes "uart1" ++ (32 ∷ x)) ≡ with_item item.Uart1 (uart_of (skip (32 ∷ x)))
+second_line : (last : ℕ) (x : Text) → line_of last ((unit_row unit.Uart1).name ++ (32 ∷ x)) ≡ with_item item.Uart1 (uart_of (skip (32 ∷ x)))
 unfolding line_of field after skip
 second_line last x = refl
 
-pub uart0_read : (last : ℕ) (u : UartStep) → is_step u ≡ true → has_bytes u ≡ true → line_of last (codes "uart0" ++ step_text u) ≡ Ok (item.Uart0 u)
+pub uart0_read : (last : ℕ) (u : UartStep) → is_step u ≡ true → has_bytes u ≡ true → line_of last ((unit_row unit.Uart0).name ++ step_text u) ≡ Ok (item.Uart0 u)
 uart0_read last u is all =
     let first = blank_first u in
-    ap (λ t. line_of last (codes "uart0" ++ t)) first.1 ∙ first_line last first.0 ∙ ap (λ t. with_item item.Uart0 (uart_of (skip t))) (sym first.1) ∙ ap (with_item item.Uart0) (step_read u is all)
+    ap (λ t. line_of last ((unit_row unit.Uart0).name ++ t)) first.1 ∙ first_line last first.0 ∙ ap (λ t. with_item item.Uart0 (uart_of (skip t))) (sym first.1) ∙ ap (with_item item.Uart0) (step_read u is all)
 
-pub uart1_read : (last : ℕ) (u : UartStep) → is_step u ≡ true → has_bytes u ≡ true → line_of last (codes "uart1" ++ step_text u) ≡ Ok (item.Uart1 u)
+pub uart1_read : (last : ℕ) (u : UartStep) → is_step u ≡ true → has_bytes u ≡ true → line_of last ((unit_row unit.Uart1).name ++ step_text u) ≡ Ok (item.Uart1 u)
 uart1_read last u is all =
     let first = blank_first u in
-    ap (λ t. line_of last (codes "uart1" ++ t)) first.1 ∙ second_line last first.0 ∙ ap (λ t. with_item item.Uart1 (uart_of (skip t))) (sym first.1) ∙ ap (with_item item.Uart1) (step_read u is all)
+    ap (λ t. line_of last ((unit_row unit.Uart1).name ++ t)) first.1 ∙ second_line last first.0 ∙ ap (λ t. with_item item.Uart1 (uart_of (skip t))) (sym first.1) ∙ ap (with_item item.Uart1) (step_read u is all)

@@ -3,6 +3,8 @@ use Rattle.std.specs.Prelude.{ℕ, ◌+◌, ◌==◌, List, [], ◌∷◌, ◌++
 use Rattle.std.specs.Str.{bytes_eq}
 use Rattle.text_fields.specs.Fields.{Text, after, field, skip}
 use Rattle.text_fields.specs.Lines.{lines}
+use Rattle.chip_base.specs.UnitTable.{unit_row}
+use Rattle.chip_base.specs.declared.chip_unit.ChipUnit.TheVariants as unit
 use Rattle.chip_base.specs.declared.script.PinStep.{PinStep}
 use Rattle.chip_base.specs.declared.script.Script.{Script}
 use Rattle.script_text.specs.ScriptLine.{pin_of, uart_of}
@@ -21,8 +23,8 @@ with_item f (Err k) = Err k
 abbrev pub item_named : ℕ → Text → Text → Result Item ScriptKind
 item_named last word rest =
     if bytes_eq word (codes "pin") then with_item item.Pin (pin_of last rest)
-    else if bytes_eq word (codes "uart0") then with_item item.Uart0 (uart_of rest)
-    else if bytes_eq word (codes "uart1") then with_item item.Uart1 (uart_of rest)
+    else if bytes_eq word (unit_row unit.Uart0).name then with_item item.Uart0 (uart_of rest)
+    else if bytes_eq word (unit_row unit.Uart1).name then with_item item.Uart1 (uart_of rest)
     else Err kind.Word
 
 -- a line without blanks at its front: empty, a comment, or an item

@@ -5,6 +5,8 @@ use Rattle.std.specs.Fmt.{decimal}
 use Rattle.hex.specs.Hex.{encode_lower}
 use Rattle.text_fields.specs.Fields.{Text}
 use Rattle.text_fields.specs.QuotedMeaning.{stands_alone}
+use Rattle.chip_base.specs.UnitTable.{unit_row}
+use Rattle.chip_base.specs.declared.chip_unit.ChipUnit.TheVariants.{Uart0, Uart1}
 use Rattle.chip_base.specs.declared.script.PinStep.{PinStep}
 use Rattle.chip_base.specs.declared.script.Script.{Script}
 use Rattle.chip_base.specs.declared.script.UartStep.{UartStep}
@@ -44,7 +46,7 @@ step_line name u = ended (name ++ step_text u)
 
 -- a script's lines: the pins, then the steps of uart0, then those of uart1
 abbrev pub script_text : Script → Text
-script_text s = flat_map pin_line s.pins ++ (flat_map (step_line (codes "uart0")) s.uart0 ++ flat_map (step_line (codes "uart1")) s.uart1)
+script_text s = flat_map pin_line s.pins ++ (flat_map (step_line (unit_row Uart0).name) s.uart0 ++ flat_map (step_line (unit_row Uart1).name) s.uart1)
 
 -- a byte
 abbrev pub is_byte : ℕ → Bool

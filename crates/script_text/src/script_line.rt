@@ -7,7 +7,7 @@ ghost use Rattle.script_text.specs.ScriptRead.{bytes_view, may_follow, number_vi
 
 use crate::script_fault::ScriptKind;
 use crate::script_item::Item;
-use chip_base::{Bytes, PinStep, UartStep};
+use chip_base::{Bytes, ChipUnit, PinStep, UartStep};
 use hex::FromHexError;
 use std::alloc::Global;
 use text_fields::fields::{after, ends_field, field, skip};
@@ -199,20 +199,23 @@ fn read_named(alloc: Global, last: u32, word: &[u8], rest: &[u8]) -> Result<Item
     ensures err { IfErr result (λ k. (k ≡ ScriptKind.Memory) ⊎ (item_named last word.now rest.now ≡ Err k)) }
     ensures valid { IfOk result (λ i. may_follow last i ≡ true) }
 {
-    match word {
-        b"pin" => match read_pin(last, rest) {
+    if word == b"pin".as_slice() {
+        match read_pin(last, rest) {
             Ok(pin) => Ok(Item::Pin(pin)),
             Err(kind) => Err(kind),
-        },
-        b"uart0" => match read_uart(alloc, rest) {
+        }
+    } else if word == ChipUnit::Uart0.name().as_bytes() {
+        match read_uart(alloc, rest) {
             Ok(step) => Ok(Item::Uart0(step)),
             Err(kind) => Err(kind),
-        },
-        b"uart1" => match read_uart(alloc, rest) {
+        }
+    } else if word == ChipUnit::Uart1.name().as_bytes() {
+        match read_uart(alloc, rest) {
             Ok(step) => Ok(Item::Uart1(step)),
             Err(kind) => Err(kind),
-        },
-        _ => Err(ScriptKind::Word),
+        }
+    } else {
+        Err(ScriptKind::Word)
     }
 }
 

@@ -1,13 +1,15 @@
 //! Printing a script.
-ghost use Rattle.std.specs.Prelude.{◌≡◌, ◌++◌, IfOk, Ok, true, codes};
+ghost use Rattle.std.specs.Prelude.{◌≡◌, ◌++◌, IfOk, Ok, true};
 ghost use Rattle.std.specs.Fmt.{decimal};
 ghost use Rattle.std.specs.List.{flat_map, list_all};
+ghost use Rattle.chip_base.specs.UnitTable.{unit_row};
+ghost use Rattle.chip_base.specs.declared.chip_unit.ChipUnit.TheVariants.{Uart0, Uart1};
 ghost use Rattle.chip_base.specs.declared.script.UartStep.TheVariants.{Send};
 ghost use Rattle.script_text.specs.ScriptFile.{script_of};
 ghost use Rattle.text_fields.specs.QuotedMeaning.{stands_alone};
 ghost use Rattle.script_text.specs.ScriptText.{ended, has_bytes, is_byte, level_text, pin_line, quoted_byte, script_text, step_line, step_text};
 
-use chip_base::{Bytes, NoMemory, PinStep, Script, UartStep};
+use chip_base::{Bytes, ChipUnit, NoMemory, PinStep, Script, UartStep};
 use std::alloc::{AllocError, Global};
 
 /// Appends a text and a number.
@@ -170,14 +172,14 @@ fn printed(
     uart0: &[UartStep],
     uart1: &[UartStep],
 ) -> Result<Vec<u8>, AllocError>
-    ensures text { IfOk result (λ v. v.items ≡ flat_map pin_line pins.now ++ (flat_map (step_line (codes "uart0")) uart0.now ++ flat_map (step_line (codes "uart1")) uart1.now)) }
+    ensures text { IfOk result (λ v. v.items ≡ flat_map pin_line pins.now ++ (flat_map (step_line (unit_row Uart0).name) uart0.now ++ flat_map (step_line (unit_row Uart1).name) uart1.now)) }
     ensures bytes0 { IfOk result (λ v. list_all has_bytes uart0.now ≡ true) }
     ensures bytes1 { IfOk result (λ v. list_all has_bytes uart1.now ≡ true) }
 {
     let mut out = Vec::new(alloc);
     print_pins(alloc, &mut out, pins)?;
-    print_steps(alloc, &mut out, "uart0", uart0)?;
-    print_steps(alloc, &mut out, "uart1", uart1)?;
+    print_steps(alloc, &mut out, ChipUnit::Uart0.name(), uart0)?;
+    print_steps(alloc, &mut out, ChipUnit::Uart1.name(), uart1)?;
     Ok(out)
 }
 
