@@ -2,6 +2,7 @@
 #![tactic(auto)]
 
 pub mod chip;
+mod lanes;
 mod links;
 #[cfg(test)]
 mod tests;

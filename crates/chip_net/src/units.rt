@@ -5,7 +5,7 @@ ghost use Rattle.chip_base.specs.Settings.{values_of};
 ghost use Rattle.spi_flash.specs.Flash.{byte_of, flash_at};
 ghost use Rattle.chip_whole.specs.Chip.{Board, arriving, image_for, is_image, told_by_units, units_after, units_start};
 
-use crate::links::Links;
+use crate::lanes::{Lane, joined, step_gpio, step_pwm, step_spi, step_uart};
 use board_units::{Gpio, Pwm};
 use chip_base::{
     Bytes, ChipUnit, Cycle, Down, Event, NoMemory, Script, Setup, Steps0, UartStep, Up,
@@ -19,38 +19,34 @@ use uart_lane::Uart;
 /// The units that are built, each with its links to the hub.
 #[derive(Drop)]
 pub(crate) struct Units {
-    uart0: Uart,
-    uart0_links: Links,
-    uart1: Uart,
-    uart1_links: Links,
-    spi: Spi,
-    spi_links: Links,
-    gpio: Gpio,
-    gpio_links: Links,
-    pwm: Pwm,
-    pwm_links: Links,
+    uart0: Lane<Uart>,
+    uart1: Lane<Uart>,
+    spi: Lane<Spi>,
+    gpio: Lane<Gpio>,
+    pwm: Lane<Pwm>,
     cycle: Cycle,
 }
 
 impl Model for Units {
     ghost use Rattle.std.specs.Prelude.{◌≡◌};
+    ghost use Rattle.chip_net.specs.Lanes.{joined_of};
     ghost use Rattle.chip_net.specs.Units.{UnitsState};
 
     ghost Value = { UnitsState };
 
     ghost view = { λ u. record {
       units = record {
-        uart0 = record { unit = u.uart0; down = u.uart0_links.down; up = u.uart0_links.up };
-        uart1 = record { unit = u.uart1; down = u.uart1_links.down; up = u.uart1_links.up };
-        spi = record { unit = u.spi; down = u.spi_links.down; up = u.spi_links.up };
-        gpio = record { unit = u.gpio; down = u.gpio_links.down; up = u.gpio_links.up };
-        pwm = record { unit = u.pwm; down = u.pwm_links.down; up = u.pwm_links.up };
+        uart0 = joined_of u.uart0.unit u.uart0.links;
+        uart1 = joined_of u.uart1.unit u.uart1.links;
+        spi = joined_of u.spi.unit u.spi.links;
+        gpio = joined_of u.gpio.unit u.gpio.links;
+        pwm = joined_of u.pwm.unit u.pwm.links;
       };
       cycle = u.cycle;
     } };
 
-    ghost invariant = { λ u. (u.uart0_links.cycle ≡ u.cycle) × (u.uart1_links.cycle ≡ u.cycle) × (u.spi_links.cycle ≡ u.cycle) × (u.gpio_links.cycle ≡ u.cycle)
-        × (u.pwm_links.cycle ≡ u.cycle) };
+    ghost invariant = { λ u. (u.uart0.links.cycle ≡ u.cycle) × (u.uart1.links.cycle ≡ u.cycle) × (u.spi.links.cycle ≡ u.cycle) × (u.gpio.links.cycle ≡ u.cycle)
+        × (u.pwm.links.cycle ≡ u.cycle) };
 }
 
 /// Whether a step sends the bytes of the image file.
@@ -91,24 +87,20 @@ impl Units {
         ensures { IfOk result (λ u. u ≡ record { units = units_start (values_of setup.now) image.now script; cycle = 0 }) }
     {
         let image0 = image_for(alloc, &script.uart0, image)?;
+        let uart0 = Uart::new(ChipUnit::Uart0.number(), script.uart0, image0);
+        let uart0 = joined(alloc, setup, ChipUnit::Uart0, uart0)?;
         let image1 = image_for(alloc, &script.uart1, image)?;
-        let uart0_links = Links::new(alloc, setup, ChipUnit::Uart0.place())?;
-        let uart1_links = Links::new(alloc, setup, ChipUnit::Uart1.place())?;
-        let spi_links = Links::new(alloc, setup, ChipUnit::Spi.place())?;
-        let gpio_links = Links::new(alloc, setup, ChipUnit::Gpio.place())?;
-        let pwm_links = Links::new(alloc, setup, ChipUnit::Pwm.place())?;
-        let spi = Spi::new(alloc, setup.flash)?;
+        let uart1 = Uart::new(ChipUnit::Uart1.number(), script.uart1, image1);
+        let uart1 = joined(alloc, setup, ChipUnit::Uart1, uart1)?;
+        let spi = joined(alloc, setup, ChipUnit::Spi, Spi::new(alloc, setup.flash)?)?;
+        let gpio = joined(alloc, setup, ChipUnit::Gpio, Gpio::new(script.pins))?;
+        let pwm = joined(alloc, setup, ChipUnit::Pwm, Pwm::new())?;
         Ok(Units {
-            uart0: Uart::new(ChipUnit::Uart0.number(), script.uart0, image0),
-            uart0_links,
-            uart1: Uart::new(ChipUnit::Uart1.number(), script.uart1, image1),
-            uart1_links,
+            uart0,
+            uart1,
             spi,
-            spi_links,
-            gpio: Gpio::new(script.pins),
-            gpio_links,
-            pwm: Pwm::new(),
-            pwm_links,
+            gpio,
+            pwm,
             cycle: 0,
         })
     }
@@ -125,11 +117,11 @@ impl Units {
         ensures { result ≡ arriving self.now.units }
     {
         [
-            self.uart0_links.at_front(),
-            self.uart1_links.at_front(),
-            self.spi_links.at_front(),
-            self.gpio_links.at_front(),
-            self.pwm_links.at_front(),
+            self.uart0.links.at_front(),
+            self.uart1.links.at_front(),
+            self.spi.links.at_front(),
+            self.gpio.links.at_front(),
+            self.pwm.links.at_front(),
             None,
             None,
         ]
@@ -142,28 +134,22 @@ impl Units {
         ensures told { (board : Board) → result ≡ told_by_units board self.old.units self.old.cycle }
         ensures cycle { self.new.cycle ≡ suc self.old.cycle }
     {
-        let uart0 = self.uart0.cycle(self.cycle, self.uart0_links.at_unit());
-        let uart1 = self.uart1.cycle(self.cycle, self.uart1_links.at_unit());
-        let spi = self.spi.cycle(self.cycle, self.spi_links.at_unit());
-        let gpio = self.gpio.cycle(self.cycle, self.gpio_links.at_unit());
-        let pwm = self.pwm.cycle(self.cycle, self.pwm_links.at_unit());
-        self.uart0_links
-            .step(downs[ChipUnit::Uart0.place()], uart0.up);
-        self.uart1_links
-            .step(downs[ChipUnit::Uart1.place()], uart1.up);
-        self.spi_links.step(downs[ChipUnit::Spi.place()], spi.up);
-        self.gpio_links.step(downs[ChipUnit::Gpio.place()], gpio.up);
-        self.pwm_links.step(downs[ChipUnit::Pwm.place()], pwm.up);
+        let now = self.cycle;
+        let uart0 = step_uart(&mut self.uart0, now, downs[ChipUnit::Uart0.place()]);
+        let uart1 = step_uart(&mut self.uart1, now, downs[ChipUnit::Uart1.place()]);
+        step_spi(&mut self.spi, now, downs[ChipUnit::Spi.place()]);
+        let gpio = step_gpio(&mut self.gpio, now, downs[ChipUnit::Gpio.place()]);
+        let pwm = step_pwm(&mut self.pwm, now, downs[ChipUnit::Pwm.place()]);
         self.cycle += 1;
-        [uart0.event, uart1.event, gpio.event, pwm.event]
+        [uart0, uart1, gpio, pwm]
     }
 
     /// The byte of the flash at an address. None exactly where no flash is fitted or the address is past its end.
     pub(crate) fn flash(&self, at: u32) -> Option<u8>
         ensures { result ≡ flash_at self.now.units.spi.unit.flash at }
     {
-        if self.spi.is_fitted() && at < SIZE {
-            Some(self.spi.flash(at))
+        if self.spi.unit.is_fitted() && at < SIZE {
+            Some(self.spi.unit.flash(at))
         } else {
             None
         }
@@ -174,6 +160,6 @@ impl Units {
         ensures bytes { (i : ℕ) → result ≤ i → byte_of self.now.units.spi.unit.flash.cells i ≡ 255 }
         ensures to { result ≤ 2 ^ 23 }
     {
-        self.spi.flash_end()
+        self.spi.unit.flash_end()
     }
 }
