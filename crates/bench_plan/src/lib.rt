@@ -4,8 +4,6 @@
 pub mod file;
 pub mod stop;
 pub mod tell;
-#[cfg(test)]
-mod tests;
 
 pub use file::{fetch, fetch_each};
 pub use stop::{Refusal, Stop, refused};

@@ -8,8 +8,6 @@ pub mod mem_sink;
 pub mod out_sink;
 pub mod shelf;
 pub mod sink;
-#[cfg(test)]
-mod tests;
 
 pub use file_shelf::FileShelf;
 pub use mem_shelf::MemShelf;

@@ -4,8 +4,6 @@
 pub mod gpio;
 mod messages;
 pub mod pwm;
-#[cfg(test)]
-mod tests;
 
 pub use gpio::Gpio;
 pub use pwm::Pwm;

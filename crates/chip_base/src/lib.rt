@@ -28,6 +28,3 @@ pub use message::{Down, Up};
 pub use names::Name;
 pub use script::{Bytes, PinStep, Pins, Script, Steps0, UartStep};
 pub use setup::Setup;
-
-#[cfg(test)]
-mod tests;

@@ -22,6 +22,3 @@ pub use clint::Clint;
 pub use core_state::Core;
 pub use mailbox::Mailbox;
 pub use phase::{Awaited, Phase};
-
-#[cfg(test)]
-mod tests;

@@ -11,6 +11,3 @@ pub mod names;
 pub use causes::Exception;
 pub use file::Csrs;
 pub use names::Csr;
-
-#[cfg(test)]
-mod tests;

@@ -4,6 +4,3 @@
 pub mod link;
 
 pub use link::DelayLine;
-
-#[cfg(test)]
-mod tests;

@@ -3,8 +3,6 @@
 
 pub mod dma;
 pub mod state;
-#[cfg(test)]
-mod tests;
 
 pub use dma::Dma;
 pub use state::DmaState;

@@ -21,6 +21,3 @@ pub use format::Format;
 pub use instr::{Instr, Op};
 pub use op_rows::{OpRow, name, op_row};
 pub use parcel::{expand, length};
-
-#[cfg(test)]
-mod tests;

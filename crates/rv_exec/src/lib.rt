@@ -11,6 +11,3 @@ mod costs;
 pub use arithmetic::{alu, is_alu, is_alu_immediate};
 pub use branches::{branch, is_branch};
 pub use costs::{cost, is_shift};
-
-#[cfg(test)]
-mod tests;

@@ -8,8 +8,6 @@ pub mod script_fault;
 mod script_item;
 mod script_line;
 pub mod script_printing;
-#[cfg(test)]
-mod tests;
 
 pub use chip::{SetupFault, read_chip};
 pub use chip_printing::print_chip;

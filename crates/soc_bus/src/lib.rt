@@ -5,8 +5,6 @@ pub mod access;
 pub mod arbiter;
 pub mod map;
 pub mod memory;
-#[cfg(test)]
-mod tests;
 mod word_parts;
 
 pub use access::{BusFault, Region, Request, Width};

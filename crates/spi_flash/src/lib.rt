@@ -4,8 +4,6 @@
 pub mod array;
 pub mod flash;
 pub mod spi;
-#[cfg(test)]
-mod tests;
 pub mod transfer;
 
 pub use flash::Flash;

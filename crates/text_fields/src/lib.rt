@@ -5,5 +5,3 @@ pub mod fields;
 pub mod lines;
 pub mod numbers;
 pub mod quoted;
-#[cfg(test)]
-mod tests;

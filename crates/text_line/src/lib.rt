@@ -5,9 +5,6 @@ ghost use Rattle.std.specs.Prelude.{◌≡◌, ℕ, ◌+◌, ◌*◌, ◌≤◌,
 ghost use Rattle.hex.specs.Hex.{encode_lower};
 ghost use Rattle.soc_words.specs.Text.{hex_word};
 
-#[cfg(test)]
-mod tests;
-
 use std::marker::Model;
 
 /// A line of text of at most 128 bytes that is being written, seen as the list of its bytes.

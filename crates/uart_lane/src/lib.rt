@@ -3,8 +3,6 @@
 #![tactic(auto)]
 
 mod receiver;
-#[cfg(test)]
-mod tests;
 pub mod uart;
 
 pub use uart::Uart;

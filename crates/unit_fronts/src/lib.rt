@@ -9,8 +9,6 @@ mod owed;
 pub mod pwm_front;
 mod serial_registers;
 pub mod spi_front;
-#[cfg(test)]
-mod tests;
 pub mod uart_front;
 
 pub use gpio_front::GpioFront;

@@ -1,10 +1,10 @@
 //! Units that are given messages cycle by cycle, and all that they say.
 
-use crate::Uart;
 use chip_base::{Bytes, Cycle, Down, Event, EventKind, Steps0, UartStep, UnitOut, Up};
 use std::alloc::Global;
 use std::process::Abort;
 use std::test::Fail;
+use uart_lane::Uart;
 
 /// A step of a script, by its text.
 #[derive(Clone, Copy)]

@@ -1,6 +1,6 @@
 //! Small values, at the ends of their ranges.
 
-use crate::{Bytes, Groups, Name, PinStep, Pins, Steps0, UartStep};
+use chip_base::{Bytes, Groups, Name, PinStep, Pins, Steps0, UartStep};
 use std::test::Fail;
 
 #[test]

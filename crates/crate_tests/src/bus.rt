@@ -1,6 +1,6 @@
 //! Accesses at the edges of the map.
 
-use crate::{BusFault, Memory, Region, Request, Width, admit};
+use soc_bus::{BusFault, Memory, Region, Request, Width, admit};
 use std::test::Fail;
 
 /// Whether a load gives this.

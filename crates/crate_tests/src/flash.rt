@@ -1,5 +1,5 @@
-use crate::Spi;
 use chip_base::{Cycle, Down, Up};
+use spi_flash::Spi;
 use std::process::Abort;
 
 /// What a test does with a unit, or looks at.

@@ -1,7 +1,7 @@
 //! Single instructions and short programs, with the values that the manuals' rules give.
 
-use crate::Core;
 use chip_base::{IssueRecord, PhaseWord};
+use core_pair::Core;
 use soc_bus::{BusFault, Memory, Request, Width};
 use std::test::Fail;
 

@@ -1,9 +1,9 @@
 //! Chip files and scripts, as users write them.
 
-use crate::{
+use chip_base::Setup;
+use script_text::{
     ScriptFault, ScriptKind, SetupFault, print_chip, print_script, read_chip, read_script,
 };
-use chip_base::Setup;
 use std::alloc::Global;
 
 /// Whether a script is refused at this line with this kind.

@@ -1,4 +1,4 @@
-use crate::{Gpio, Pwm};
+use board_units::{Gpio, Pwm};
 use chip_base::{Cycle, Down, Event, EventKind, PinStep, Pins, UnitOut, Up};
 use std::alloc::Global;
 use std::process::Abort;

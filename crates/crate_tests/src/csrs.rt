@@ -1,6 +1,6 @@
 //! Values from the table of CSRs and from the rules of traps.
 
-use crate::Csrs;
+use csr_file::Csrs;
 
 /// Each CSR of hart 1: its number, its value at reset, whether a write is done, and its value after a write of ones.
 const TABLE: [(u16, u32, bool, u32); 19] = [

@@ -1,6 +1,6 @@
 //! A link over some cycles.
 
-use crate::DelayLine;
+use delay_line::DelayLine;
 
 /// With a delay of two, what is sent in cycle 0 arrives in cycle 2, and what is sent in cycle 1 in cycle 3.
 #[test]

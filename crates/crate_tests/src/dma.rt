@@ -1,6 +1,6 @@
 //! A copy of two words, word by word, and the words of CTRL.
 
-use crate::Dma;
+use dma_unit::Dma;
 use soc_bus::{BusFault, Request, Width};
 
 /// SRC wraps past the end of the addresses, the second store is refused, and CTRL tells each state.

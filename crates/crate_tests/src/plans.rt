@@ -1,9 +1,9 @@
 //! Files that are read and made, and what is told of them.
 ghost use Rattle.std.specs.Prelude.{None, false};
 
-use crate::file::{fetch, fetch_each};
-use crate::stop::{Stop, refused};
-use crate::tell::{made, stopped};
+use bench_plan::file::{fetch, fetch_each};
+use bench_plan::stop::{Stop, refused};
+use bench_plan::tell::{made, stopped};
 use bench_shelf::{MemShelf, MemSink, Shelf, ShelfFault};
 use std::alloc::{AllocError, Global};
 

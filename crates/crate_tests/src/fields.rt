@@ -1,10 +1,10 @@
 //! Lines, fields, numbers and quoted texts, as users write them.
 
-use crate::fields::{after, field, skip};
-use crate::lines::cut_line;
-use crate::numbers::number;
-use crate::quoted::read_quoted;
 use std::alloc::Global;
+use text_fields::fields::{after, field, skip};
+use text_fields::lines::cut_line;
+use text_fields::numbers::number;
+use text_fields::quoted::read_quoted;
 
 /// Whether a text after its opening quote is no quoted text.
 fn is_refused(alloc: Global, text: &[u8]) -> bool {

@@ -1,6 +1,6 @@
 //! Words and parcels as an assembler writes them.
 
-use crate::{Instr, Op, decode, expand, length, name};
+use rv_decode::{Instr, Op, decode, expand, length, name};
 
 fn instr(op: Op, registers: (u8, u8, u8), imm: u32, csr: u16) -> Instr {
     let (rd, rs1, rs2) = registers;

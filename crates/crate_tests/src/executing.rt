@@ -1,7 +1,7 @@
 //! Results that the manual's tables and plain arithmetic give.
 
-use crate::{alu, branch, cost};
 use rv_decode::Op;
+use rv_exec::{alu, branch, cost};
 
 #[test]
 fn computes_results(rt: HostRuntime) {

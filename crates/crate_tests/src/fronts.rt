@@ -1,7 +1,7 @@
 //! Words that loads give, each written out from the table of registers.
 
-use crate::{GpioFront, PwmFront, UartFront};
 use chip_base::{Down, Up};
+use unit_fronts::{GpioFront, PwmFront, UartFront};
 
 /// A message with a word.
 const fn word_up(word: u32) -> Up {

@@ -1,4 +1,4 @@
-use crate::Line;
+use text_line::Line;
 
 #[test]
 fn a_line_takes_texts_numbers_and_digits_up_to_128_bytes(rt: HostRuntime) {
