@@ -1,5 +1,5 @@
 -- A definition: what an instruction does, by the rows of the instruction table.
-use Rattle.std.specs.Prelude.{◌==◌, ℕ, ◌-◌, ◌*◌, ◌/◌, ◌%◌, Bool, true, false, Option, Some, None, slice_index, if◌then◌else◌}
+use Rattle.std.specs.Prelude.{ℕ, ◌-◌, ◌*◌, ◌/◌, ◌%◌, Bool, true, false, Option, Some, None, slice_index, if◌then◌else◌}
 use Rattle.soc_words.specs.Word.{wrapped_sum}
 use Rattle.soc_bus.specs.declared.access.Width.TheVariants.{Byte, Half, Word}
 use Rattle.rv_decode.specs.declared.instr.Instr.{Instr}
