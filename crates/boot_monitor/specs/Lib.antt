@@ -1,0 +1,4 @@
+pub mod Actions
+pub mod Phases
+pub mod Standing
+pub mod Tallies
