@@ -1,0 +1,10 @@
+pub mod Ends
+pub mod Follows
+pub mod Gates
+pub mod Goes
+pub mod Images
+pub mod Passing
+pub mod Splits
+pub mod Stores
+pub mod Taking
+pub mod Unique

@@ -1,0 +1,9 @@
+use Rattle.boot_gate.proofs.Gates.{gated}
+use Rattle.boot_gate.proofs.Splits.{splits_once}
+use Rattle.boot_gate.proofs.laws.gate.Goals as goal
+
+pub returns-clause-items : goal.returns-clause-items
+returns-clause-items c = splits_once
+
+pub returns-clause-gated : goal.returns-clause-gated
+returns-clause-gated c = gated

@@ -1,0 +1,4 @@
+pub mod Gate
+pub mod Items
+pub mod Laws
+pub mod Replies
