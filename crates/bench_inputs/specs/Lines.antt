@@ -1,16 +1,27 @@
--- The lines of refusals (definitions).
+-- Definition: the lines of refusals.
 use Rattle.std.specs.Prelude.{ℕ, List, ◌++◌, codes, decimal}
-use Rattle.soc_words.specs.Text.{line}
-use Rattle.bench_plan.specs.Readings.{Fault}
+use Rattle.soc_words.specs.Text.{hex_word, line}
+use Rattle.bench_plan.specs.Readings.{Refusal}
+use Rattle.image_tool.specs.declared.faults.ImageFault.{ImageFault}
+use Rattle.image_tool.specs.declared.faults.ImageFault.TheVariants as image
 use Rattle.script_text.specs.declared.chip.KeyFault.{KeyFault}
 use Rattle.script_text.specs.declared.chip.KeyFault.TheVariants.{Key, Range}
 use Rattle.script_text.specs.declared.script_fault.ScriptFault.{ScriptFault}
 use Rattle.script_text.specs.declared.script_fault.ScriptKind.{ScriptKind}
 use Rattle.script_text.specs.declared.script_fault.ScriptKind.TheVariants as kind
 
--- a file of this many bytes is longer than IMEM
-unfoldable pub size_text : ℕ → List ℕ
-size_text bytes = line (codes "error image size " ++ decimal bytes)
+-- what is wrong in an image; none has the fault that says that memory was wanted
+abbrev pub image_fault_words : ImageFault → List ℕ
+image_fault_words (image.Short have) = codes "short " ++ decimal have
+image_fault_words (image.Signature found) = codes "signature " ++ hex_word found
+image_fault_words (image.Size found) = codes "size " ++ decimal found
+image_fault_words (image.Checksum sum) = codes "checksum " ++ hex_word sum
+image_fault_words (image.Extra have) = codes "extra " ++ decimal have
+image_fault_words image.Memory = codes "memory"
+
+-- an image with this fault
+unfoldable pub image_fault_text : ImageFault → List ℕ
+image_fault_text fault = line (codes "error image " ++ image_fault_words fault)
 
 -- a chip file that is no TOML document
 unfoldable pub toml_text : List ℕ
@@ -38,16 +49,16 @@ fault_kind_name kind.Memory = codes "memory"
 unfoldable pub line_text : ScriptFault → List ℕ
 line_text fault = line (codes "error script line " ++ decimal fault.line ++ codes " " ++ fault_kind_name fault.kind)
 
-abbrev pub size_fault : ℕ → Fault
-size_fault bytes = record { status = 4; text = size_text bytes }
+abbrev pub image_refusal : ImageFault → Refusal
+image_refusal fault = record { status = 4; text = image_fault_text fault }
 
-abbrev pub line_fault : ScriptFault → Fault
-line_fault fault = record { status = 5; text = line_text fault }
+abbrev pub line_refusal : ScriptFault → Refusal
+line_refusal fault = record { status = 5; text = line_text fault }
 
-abbrev pub toml_fault : Fault
-toml_fault = record { status = 6; text = toml_text }
+abbrev pub toml_refusal : Refusal
+toml_refusal = record { status = 6; text = toml_text }
 
 -- a fault at the key of this name
-abbrev pub key_fault : KeyFault → List ℕ → Fault
-key_fault Key name = record { status = 6; text = key_text }
-key_fault Range name = record { status = 6; text = range_text name }
+abbrev pub key_refusal : KeyFault → List ℕ → Refusal
+key_refusal Key name = record { status = 6; text = key_text }
+key_refusal Range name = record { status = 6; text = range_text name }

@@ -1,14 +1,14 @@
 //! The files of a job, read and judged one by one.
-ghost use Rattle.std.specs.Prelude.{◌≡◌, ◌≤◌, IfOk, length, option_map};
+ghost use Rattle.std.specs.Prelude.{◌≡◌, ◌%◌, ◌≤◌, IfOk, None, length, option_map};
 ghost use Rattle.chip_base.specs.Settings.{values_of};
-ghost use Rattle.bench_inputs.specs.Inputs.{image_reading, script_reading, settings_reading};
+ghost use Rattle.bench_inputs.specs.Inputs.{boot_fault, image_reading, room_reading, script_reading, settings_reading, wrapped_reading};
 ghost use Rattle.bench_plan.specs.Steps.{Reads, mapped};
 ghost use Rattle.script_text.specs.ScriptFile.{empty};
 
-use crate::judge::{judge_chip, judge_image, judge_script};
+use crate::judge::{judge_chip, judge_image, judge_script, wrap_payload};
 use bench_plan::{Stop, fetch};
 use bench_shelf::Shelf;
-use chip_base::{Pins, Script, Setup, Steps0};
+use chip_base::{Boot, Pins, Script, Setup, Steps0};
 use std::alloc::Global;
 
 /// The settings of the chip: those of the file of this name, of at most 65,536 bytes, or the standard ones where none is named.
@@ -26,18 +26,47 @@ pub fn read_settings<S: Shelf>(
     judge_chip(alloc, &bytes)
 }
 
-/// The image of this name, of at most 2,097,152 bytes, which must have room in an IMEM of this many bytes.
+/// The most bytes that a payload may have: those of IMEM, by the chip file of this name, or 1,048,576, those of the largest IMEM, where
+/// none is named.
+pub fn read_room<S: Shelf>(alloc: Global, name: Option<&str>, shelf: &mut S) -> Result<u32, Stop>
+    ensures { Reads S.held shelf.old shelf.new (room_reading (option_map (λ s. s.now) name.entry)) result }
+{
+    if name.is_none() {
+        return Ok(1_048_576);
+    }
+    let setup = read_settings(alloc, name, shelf)?;
+    Ok(setup.imem)
+}
+
+/// The file of this name, of at most 2,097,152 bytes, which core 0 must be able to begin with in this way, where IMEM has this many
+/// bytes.
 pub fn read_image<S: Shelf>(
+    alloc: Global,
+    boot: Boot,
+    room: u32,
+    name: &str,
+    shelf: &mut S,
+) -> Result<Vec<u8>, Stop>
+    ensures reads { Reads S.held shelf.old shelf.new (image_reading boot room name.now) (mapped (λ v. v.items) result) }
+    ensures fits { IfOk result (λ v. boot_fault boot room v.items ≡ None) }
+{
+    let image = fetch(alloc, name, 2_097_152, shelf)?;
+    judge_image(alloc, boot, image, room)
+}
+
+/// The image of the payload in the file of this name, of at most 2,097,152 bytes. With zero bytes up to a multiple of four it must have
+/// at least one byte and at most this many.
+pub fn read_payload<S: Shelf>(
     alloc: Global,
     room: u32,
     name: &str,
     shelf: &mut S,
 ) -> Result<Vec<u8>, Stop>
-    ensures reads { Reads S.held shelf.old shelf.new (image_reading room name.now) (mapped (λ v. v.items) result) }
-    ensures fits { IfOk result (λ v. length v.items ≤ room) }
+    ensures reads { Reads S.held shelf.old shelf.new (wrapped_reading room name.now) (mapped (λ v. v.items) result) }
+    ensures whole { IfOk result (λ v. (12 ≤ length v.items) × (length v.items % 4 ≡ 0)) }
 {
-    let image = fetch(alloc, name, 2_097_152, shelf)?;
-    judge_image(alloc, image, room)
+    let payload = fetch(alloc, name, 2_097_152, shelf)?;
+    wrap_payload(alloc, &payload, room)
 }
 
 /// A script that does nothing.

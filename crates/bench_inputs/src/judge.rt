@@ -1,14 +1,15 @@
 //! What the bytes of the files mean, and what is wrong in them.
-ghost use Rattle.std.specs.Prelude.{◌≡◌, ◌^◌, ◌<◌, ◌≤◌, IfOk, length};
+ghost use Rattle.std.specs.Prelude.{◌≡◌, ◌%◌, ◌^◌, ◌<◌, ◌≤◌, IfOk, None, Option, length};
 ghost use Rattle.chip_base.specs.Settings.{values_of};
-ghost use Rattle.bench_inputs.specs.Inputs.{image_in, script_in, settings_in};
-ghost use Rattle.bench_inputs.specs.Lines.{toml_fault};
+ghost use Rattle.image_tool.specs.declared.faults.ImageFault.{ImageFault};
+ghost use Rattle.bench_inputs.specs.Inputs.{boot_fault, image_in, script_in, settings_in, wrapped_in};
+ghost use Rattle.bench_inputs.specs.Lines.{toml_refusal};
 ghost use Rattle.bench_plan.specs.Steps.{IsRefusal, Judges, mapped};
 
-use crate::lines::{line_refused, range_refused, size_refused};
+use crate::lines::{image_refused, line_refused, range_refused};
 use bench_plan::{Stop, refused};
 use chip_base::{Boot, Script, Setup};
-use chip_hub::fits;
+use image_tool::{ImageFault, check, wrap};
 use script_text::{ScriptKind, SetupFault, read_chip, read_script};
 use std::alloc::Global;
 
@@ -26,15 +27,65 @@ pub fn judge_chip(alloc: Global, bytes: &[u8]) -> Result<Setup, Stop>
     }
 }
 
-/// An image, which must have room in an IMEM of this many bytes.
-pub fn judge_image(alloc: Global, image: Vec<u8>, room: u32) -> Result<Vec<u8>, Stop>
-    ensures judges { Judges (image_in room image.items) (mapped (λ v. v.items) result) }
-    ensures fits { IfOk result (λ v. length v.items ≤ room) }
+/// What is wrong in a file of raw bytes, for an IMEM of this many bytes.
+fn raw_fault(image: &[u8], room: u32) -> Option<ImageFault>
+    requires { length image.now < 2 ^ 32 }
+    ensures { result ≡ boot_fault Boot.Raw room image.now }
 {
-    if fits(Boot::Raw, &image, room) {
-        Ok(image)
+    let size = image.len() as u32;
+    if size <= room {
+        None
     } else {
-        Err(size_refused(alloc, image.len()))
+        Some(ImageFault::Size { found: size })
+    }
+}
+
+/// What is wrong in an image, for an IMEM of this many bytes.
+fn direct_fault(image: &[u8], room: u32) -> Option<ImageFault>
+    requires { length image.now < 2 ^ 32 }
+    ensures { result ≡ boot_fault Boot.Direct room image.now }
+{
+    match check(image, room) {
+        Ok(_) => None,
+        Err(fault) => Some(fault),
+    }
+}
+
+/// Why core 0 can't begin with a file in this way, where IMEM has this many bytes.
+fn fault_of(boot: Boot, image: &[u8], room: u32) -> Option<ImageFault>
+    requires { length image.now < 2 ^ 32 }
+    ensures { result ≡ boot_fault boot room image.now }
+{
+    match boot {
+        Boot::Raw => raw_fault(image, room),
+        Boot::Direct => direct_fault(image, room),
+        Boot::Monitor => None,
+    }
+}
+
+/// A file of fewer than 2^32 bytes, which core 0 must be able to begin with in this way, where IMEM has this many bytes.
+pub fn judge_image(alloc: Global, boot: Boot, image: Vec<u8>, room: u32) -> Result<Vec<u8>, Stop>
+    requires { length image.items < 2 ^ 32 }
+    ensures judges { Judges (image_in boot room image.items) (mapped (λ v. v.items) result) }
+    ensures fits { IfOk result (λ v. boot_fault boot room v.items ≡ None) }
+{
+    match fault_of(boot, &image, room) {
+        None => Ok(image),
+        Some(fault) => Err(image_refused(alloc, fault)),
+    }
+}
+
+/// The image of a payload of fewer than 2^31 bytes, which must have room.
+#[tactic(auto, using(crate::proofs::Payloads::wrapped_ok, crate::proofs::Payloads::wrapped_size))]
+pub fn wrap_payload(alloc: Global, payload: &[u8], room: u32) -> Result<Vec<u8>, Stop>
+    requires { length payload.now < 2 ^ 31 }
+    ensures judges { Judges (wrapped_in room payload.now) (mapped (λ v. v.items) result) }
+    ensures whole { IfOk result (λ v. (12 ≤ length v.items) × (length v.items % 4 ≡ 0)) }
+{
+    match wrap(alloc, payload, room) {
+        Ok(image) => Ok(image),
+        Err(ImageFault::Memory) => Err(Stop::Memory),
+        Err(fault) => Err(image_refused(alloc, fault)),
     }
 }
 

@@ -1,10 +1,11 @@
 //! The lines of refusals.
 ghost use Rattle.std.specs.Prelude.{◌≡◌, ℕ, ◌+◌, ◌≤◌, ◌++◌, List, IfOk, codes, length};
 ghost use Rattle.soc_words.specs.Text.{line};
-ghost use Rattle.bench_inputs.specs.Lines.{fault_kind_name, line_fault, line_text, range_text, size_fault, size_text};
+ghost use Rattle.bench_inputs.specs.Lines.{fault_kind_name, image_fault_text, image_refusal, line_refusal, line_text, range_text};
 ghost use Rattle.bench_plan.specs.Steps.{IsRefusal};
 
 use bench_plan::{Refusal, Stop, refused};
+use image_tool::ImageFault;
 use script_text::{ScriptFault, ScriptKind};
 use std::alloc::{AllocError, Global};
 use text_line::Line;
@@ -31,23 +32,45 @@ pub fn range_refused(alloc: Global, key: &[u8]) -> Stop
     }
 }
 
-/// The line of an image of this size.
-#[tactic(auto, unfolding(crate::specs::Lines::size_text))]
-fn size_line(size: usize) -> Line
-    ensures { result ≡ size_text size }
+/// The line of an image with this fault.
+#[tactic(auto, unfolding(crate::specs::Lines::image_fault_text))]
+fn image_line(fault: ImageFault) -> Line
+    ensures { result ≡ image_fault_text fault }
 {
     let mut line = Line::new();
-    line.push(b"error image size ");
-    line.push_number(size as u64);
+    line.push(b"error image ");
+    match fault {
+        ImageFault::Short { have } => {
+            line.push(b"short ");
+            line.push_number(u64::from(have));
+        }
+        ImageFault::Signature { found } => {
+            line.push(b"signature ");
+            line.push_word(found);
+        }
+        ImageFault::Size { found } => {
+            line.push(b"size ");
+            line.push_number(u64::from(found));
+        }
+        ImageFault::Checksum { sum } => {
+            line.push(b"checksum ");
+            line.push_word(sum);
+        }
+        ImageFault::Extra { have } => {
+            line.push(b"extra ");
+            line.push_number(u64::from(have));
+        }
+        ImageFault::Memory => line.push(b"memory"),
+    }
     line.push(b"\n");
     line
 }
 
-/// Refuses an image of this size.
-pub fn size_refused(alloc: Global, size: usize) -> Stop
-    ensures { IsRefusal (size_fault size) result }
+/// Refuses an image with this fault.
+pub fn image_refused(alloc: Global, fault: ImageFault) -> Stop
+    ensures { IsRefusal (image_refusal fault) result }
 {
-    refused(alloc, 4, size_line(size).as_slice())
+    refused(alloc, 4, image_line(fault).as_slice())
 }
 
 /// The word for what is wrong in a line of a script.
@@ -82,7 +105,7 @@ fn fault_line(fault: &ScriptFault) -> Line
 
 /// Refuses a script by its first faulty line.
 pub fn line_refused(alloc: Global, fault: &ScriptFault) -> Stop
-    ensures { IsRefusal (line_fault fault.now) result }
+    ensures { IsRefusal (line_refusal fault.now) result }
 {
     refused(alloc, 5, fault_line(fault).as_slice())
 }

@@ -2,85 +2,129 @@
 use Rattle.std.proofs.Common.{◌≡◌, ◌≢◌, ℕ, arith, inl, inr, Bool, true, false, List, Option, Some, None, Result, Ok, Err, refl, ap, sym, subst, ◌∙◌}
 use Rattle.std.specs.Prelude.{◌⊎◌, ◌==◌, IsTrue}
 use Rattle.std.proofs.lemmas.Bool.Decides.{Decides-eqb}
-use Rattle.bench_inputs.specs.Inputs.{image_reading, settings_reading, script_reading}
-use Rattle.bench_inputs.proofs.Ends.{Any, HasStatus, image_ends, image_large, script_ends, settings_ends}
-use Rattle.bench_plan.specs.Answers.{Done, ended, refused}
+use Rattle.bench_inputs.specs.Inputs.{boot_fault, image_reading, imem_step, payload_fault, room_reading, settings_reading, script_reading, wrapped_reading}
+use Rattle.bench_inputs.specs.Lines.{image_refusal}
+use Rattle.bench_inputs.proofs.Ends.{Any, HasStatus, file_refusal, image_ends, room_ends, script_ends, settings_ends, wrapped_ends}
+use Rattle.bench_plan.specs.Answers.{Done, File, ended, refused}
 use Rattle.bench_plan.specs.Calls.{Call, Tells, WritesText}
 use Rattle.bench_plan.specs.Ends.{Ends}
-use Rattle.bench_plan.specs.Keeps.{Keeps, TellsWhole, answer_of}
-use Rattle.bench_plan.specs.Readings.{Fault, Reading}
-use Rattle.bench_plan.specs.Steps.{Comes}
-use Rattle.bench_plan.proofs.Ends.{comes_ends, comes_split, ends_then, ends_weaker, keeps_refuses, keeps_sink, keeps_still, keeps_whole}
+use Rattle.bench_plan.specs.Keeps.{IsTold, Keeps, MayMake}
+use Rattle.bench_plan.specs.Readings.{Refusal, Reading, followed, gives}
+use Rattle.bench_plan.specs.Steps.{Comes, IsRead}
+use Rattle.bench_plan.proofs.Ends.{comes_ends, comes_split, ends_then, ends_weaker, keeps_refuses}
 use Rattle.bench_plan.proofs.Keeping.{answers_from}
+use Rattle.bench_plan.proofs.Readings.{comes_then}
 use Rattle.bench_shelf.specs.Held.{Held}
-use Rattle.bench_words.specs.Jobs.{Job}
-use Rattle.soc_words.specs.Causes.{Rose, AppendsBeginning}
+use Rattle.bench_words.specs.Jobs.{Checking, Job, Making, Run, checks, makes, run}
+use Rattle.soc_words.specs.Causes.{Rose}
 use Rattle.chip_base.specs.Settings.{Values}
+use Rattle.chip_base.specs.declared.boot.Boot.TheVariants.{Direct}
 use Rattle.chip_whole.specs.Chip.{ChipState}
-use Rattle.bench_job.specs.Plans.{image_step, plan_of, report_step, run_plan, seat_reading, settings_step, usage_fault}
-use Rattle.bench_job.specs.Statuses.{IsStatus, IsTooLarge}
+use Rattle.image_tool.specs.Image.{image_of, padded}
+use Rattle.image_tool.specs.declared.faults.ImageFault.{ImageFault}
+use Rattle.bench_job.specs.Plans.{checking_plan, checking_room, checking_step, image_step, job_plan, making_plan, making_room, making_step, plan_of, report_step, run_plan, power_on_reading, settings_step, usage_refusal}
+use Rattle.bench_job.specs.Statuses.{IsOut, IsRefusedImage, IsStatus, fault_in, image_name, room_of}
 
--- the refusals of a run
-abbrev IsRunFault : Fault → Type 0
-IsRunFault f = (f.status ≡ 4) ⊎ ((f.status ≡ 5) ⊎ (f.status ≡ 6))
+-- the refusals of a job
+abbrev IsJobFault : Refusal → Type 0
+IsJobFault f = (f.status ≡ 4) ⊎ ((f.status ≡ 5) ⊎ (f.status ≡ 6))
 
-abbrev MakesNone : Done → Type 0
-MakesNone d = d.out ≡ None
+-- a file that is made is the one that the words ask for
+abbrev MakesOut : Option Job → Done → Type 0
+MakesOut job d = (f : File) → d.out ≡ Some f → IsOut job f.name
 
-image_step_ends : (job : Job) (v : Values) (image : List ℕ) → Ends Any IsRunFault (image_step job v image)
-image_step_ends job v image = ends_then Any Any IsRunFault (script_reading job.script) _ (ends_weaker Any Any (HasStatus 5) IsRunFault (script_reading job.script) (λ a u. tt) (λ f e. inr (inl e)) (script_ends job.script))
+none_some : {A : Type 0} {f : File} → ◌≡◌ {A = Option File} None (Some f) → A
+none_some e = absurd (cc)
+
+some_same : {f g : File} → ◌≡◌ {A = Option File} (Some f) (Some g) → f ≡ g
+some_same e = cc
+
+err_same : {A : Type 0} {a b : Refusal} → ◌≡◌ {A = Result A Refusal} (Err a) (Err b) → a ≡ b
+err_same e = cc
+
+image_step_ends : (job : Run) (v : Values) (image : List ℕ) → Ends Any IsJobFault (image_step job v image)
+image_step_ends job v image = ends_then Any Any IsJobFault (script_reading job.script) _ (ends_weaker Any Any (HasStatus 5) IsJobFault (script_reading job.script) (λ a u. tt) (λ f e. inr (inl e)) (script_ends job.script))
     (λ script u. tt)
 
-settings_step_ends : (job : Job) (v : Values) → Ends Any IsRunFault (settings_step job v)
-settings_step_ends job v = ends_then Any Any IsRunFault (image_reading v.imem job.image) _
-    (ends_weaker Any Any (HasStatus 4) IsRunFault (image_reading v.imem job.image) (λ a u. tt) (λ f e. inl e) (image_ends v.imem job.image)) (λ image u. image_step_ends job v image)
+settings_step_ends : (job : Run) (v : Values) → Ends Any IsJobFault (settings_step job v)
+settings_step_ends job v = ends_then Any Any IsJobFault (image_reading job.boot v.imem job.image) _
+    (ends_weaker Any Any (HasStatus 4) IsJobFault (image_reading job.boot v.imem job.image) (λ a u. tt) (λ f e. inl e) (image_ends job.boot v.imem job.image)) (λ image u. image_step_ends job v image)
 
-seat_ends : (job : Job) → Ends Any IsRunFault (seat_reading job)
-unfolding seat_reading
-seat_ends job = ends_then Any Any IsRunFault (settings_reading job.chip) _
-    (ends_weaker Any Any (HasStatus 6) IsRunFault (settings_reading job.chip) (λ a u. tt) (λ f e. inr (inr e)) (settings_ends job.chip)) (λ v u. settings_step_ends job v)
+power_on_ends : (job : Run) → Ends Any IsJobFault (power_on_reading job)
+unfolding power_on_reading
+power_on_ends job = ends_then Any Any IsJobFault (settings_reading job.chip) _
+    (ends_weaker Any Any (HasStatus 6) IsJobFault (settings_reading job.chip) (λ a u. tt) (λ f e. inr (inr e)) (settings_ends job.chip)) (λ v u. settings_step_ends job v)
 
-run_ends : (job : Job) → Ends MakesNone IsRunFault (run_plan job)
-run_ends job = ends_then Any MakesNone IsRunFault (seat_reading job) (report_step job.cycles) (seat_ends job) (λ chip u. refl)
+run_ends : (job : Run) → Ends (MakesOut (Some (run job))) IsJobFault (run_plan job)
+run_ends job = ends_then Any (MakesOut (Some (run job))) IsJobFault (power_on_reading job) (report_step job.cycles) (power_on_ends job) (λ chip u. λ f e. none_some e)
 
--- no file is changed
-plan_ends : (job : Option Job) → Ends MakesNone (λ f. Unit {0}) (plan_of job)
+making_ends : (job : Making) → Ends (MakesOut (Some (makes job))) IsJobFault (making_plan job)
+making_ends job = ends_then Any (MakesOut (Some (makes job))) IsJobFault (room_reading job.chip) (making_room job)
+    (ends_weaker Any Any (HasStatus 6) IsJobFault (room_reading job.chip) (λ a u. tt) (λ f e. inr (inr e)) (room_ends job.chip))
+    (λ room u. ends_then Any (MakesOut (Some (makes job))) IsJobFault (wrapped_reading room job.payload) (making_step job)
+    (ends_weaker Any Any (HasStatus 4) IsJobFault (wrapped_reading room job.payload) (λ a u. tt) (λ f e. inl e) (wrapped_ends room job.payload))
+    (λ image u. λ f e. ap (λ (g : File). g.name) (sym (some_same e))))
+
+checking_ends : (job : Checking) → Ends (MakesOut (Some (checks job))) IsJobFault (checking_plan job)
+checking_ends job = ends_then Any (MakesOut (Some (checks job))) IsJobFault (room_reading job.chip) (checking_room job)
+    (ends_weaker Any Any (HasStatus 6) IsJobFault (room_reading job.chip) (λ a u. tt) (λ f e. inr (inr e)) (room_ends job.chip))
+    (λ room u. ends_then Any (MakesOut (Some (checks job))) IsJobFault (image_reading Direct room job.image) checking_step
+    (ends_weaker Any Any (HasStatus 4) IsJobFault (image_reading Direct room job.image) (λ a u. tt) (λ f e. inl e) (image_ends Direct room job.image))
+    (λ image u. λ f e. none_some e))
+
+job_ends : (job : Job) → Ends (MakesOut (Some job)) IsJobFault (job_plan job)
+job_ends (run job) = run_ends job
+job_ends (makes job) = making_ends job
+job_ends (checks job) = checking_ends job
+
+plan_ends : (job : Option Job) → Ends (MakesOut job) (λ f. Unit {0}) (plan_of job)
 plan_ends None = tt
-plan_ends (Some job) = ends_weaker MakesNone MakesNone IsRunFault (λ f. Unit {0}) (run_plan job) (λ d e. e) (λ f e. tt) (run_ends job)
+plan_ends (Some job) = ends_weaker (MakesOut (Some job)) (MakesOut (Some job)) IsJobFault (λ f. Unit {0}) (job_plan job) (λ d e. e) (λ f e. tt) (job_ends job)
 
--- 7 comes only where the sink failed
-pub sink_failed : (job : Option Job) (c : Call) → Keeps (plan_of job) c → c.status ≡ 7 → Rose c.puts c.puts_after
-sink_failed job c k seven = keeps_sink (λ f. Unit {0}) (plan_of job) c (plan_ends job) k seven
+-- the only file that may be made
+out_only : (job : Option Job) (c : Call) (q : List ℕ) → MayMake (plan_of job) c q → IsOut job q
+out_only job c q m = subst (IsOut job) (sym m.4) (comes_ends (MakesOut job) (λ f. Unit {0}) c.before (plan_of job) (Ok m.0) (plan_ends job) m.2 m.1 m.3)
 
--- told whole where no read and no put failed
+-- 7 comes only where the sink failed, or the write of the image's file
+pub failed : (job : Option Job) (c : Call) → Keeps (plan_of job) c → c.status ≡ 7
+    → Rose c.sink_faults c.sink_faults_after ⊎ ((name : List ℕ) × IsOut job name × Rose c.before.write_faults c.after.write_faults)
+failed job c k seven = elim (k.write seven) [ inl rose ↦ inl rose | inr made ↦ inr (made.0, out_only job c made.0 made.1, made.2) ]
+
+-- told whole where nothing failed
 pub told_whole : (job : Option Job) (c : Call) → Keeps (plan_of job) c → IsTrue c.before.discloses
-    → (Rose c.before.read_faults c.after.read_faults → ⊥) → (Rose c.puts c.puts_after → ⊥)
-    → TellsWhole (answer_of (plan_of job) c) c ⊎ ((c.status ≡ 9) × AppendsBeginning c.written c.written_after (answer_of (plan_of job) c).text)
-told_whole job c k = keeps_whole (λ f. Unit {0}) (plan_of job) c (plan_ends job) k
+    → (Rose c.before.read_faults c.after.read_faults → ⊥) → ((name : List ℕ) → IsOut job name → Rose c.before.write_faults c.after.write_faults → ⊥)
+    → (Rose c.sink_faults c.sink_faults_after → ⊥) → IsTold (plan_of job) c
+told_whole job c k discloses reads writes sink_faults =
+    k.complete discloses (record { reads = reads; writes = λ name may. writes name (out_only job c name may); sink_faults = sink_faults })
 
-pub still : (job : Option Job) (c : Call) → Keeps (plan_of job) c → (c.after.write_faults ≡ c.before.write_faults) × ((q : List ℕ) → c.after.file q ≡ c.before.file q)
-still job c k = keeps_still (λ f. Unit {0}) (plan_of job) c (plan_ends job) k
+-- no write fails where no file is made
+pub quiet : (job : Option Job) (c : Call) → Keeps (plan_of job) c → ((name : List ℕ) → IsOut job name → ⊥) → c.after.write_faults ≡ c.before.write_faults
+quiet job c k none = k.no_writes (λ q may. none q (out_only job c q may))
+
+-- every other file stays
+pub still : (job : Option Job) (c : Call) → Keeps (plan_of job) c → (q : List ℕ) → (IsOut job q → ⊥) → c.after.file q ≡ c.before.file q
+still job c k q other = k.others q (λ may. other (out_only job c q may))
 
 -- no job
-pub no_job : (job : Option Job) (c : Call) → Keeps (plan_of job) c → job ≡ None → (c.after.read_faults ≡ c.before.read_faults) × Tells (refused usage_fault) c
-no_job job c k none = keeps_refuses usage_fault c (λ e. absurd (cc)) (λ e. absurd (cc)) (λ e. absurd (cc)) (λ e. absurd (cc)) (subst (λ j. Keeps (plan_of j) c) none k)
+pub no_job : (job : Option Job) (c : Call) → Keeps (plan_of job) c → job ≡ None → (c.after.read_faults ≡ c.before.read_faults) × Tells (refused usage_refusal) c
+no_job job c k none = keeps_refuses usage_refusal c (λ e. absurd (cc)) (λ e. absurd (cc)) (λ e. absurd (cc)) (λ e. absurd (cc)) (subst (λ j. Keeps (plan_of j) c) none k)
 
 -- a status other than 3, 7 and 9 is that of what the plan comes to
 end_status : (plan : Reading Done) (c : Call) → Keeps plan c → c.status ≢ 3 → c.status ≢ 7 → c.status ≢ 9
-    → (r : Result Done Fault) × Comes c.before plan r × (c.status ≡ (ended r).status) × Tells (ended r) c
+    → (r : Result Done Refusal) × Comes c.before plan r × (c.status ≡ (ended r).status) × Tells (ended r) c
 end_status plan c k three seven nine =
     let r = k.ran three nine in
     (r.end, r.comes, elim r.tells.statuses [ inl e ↦ e | inr other ↦ elim other [ inl e ↦ absurd (nine e) | inr e ↦ absurd (seven e.1) ] ], r.tells)
 
-run_status : (job : Job) (h : Held) (r : Result Done Fault) → Comes h (run_plan job) r → ((ended r).status ≡ 0) ⊎ (((ended r).status ≡ 4) ⊎ (((ended r).status ≡ 5) ⊎ ((ended r).status ≡ 6)))
-run_status job h (Ok d) c = inl refl
-run_status job h (Err f) c = inr (comes_ends MakesNone IsRunFault h (run_plan job) (Err f) (run_ends job) c)
+job_status : (job : Job) (h : Held) (r : Result Done Refusal) → Comes h (job_plan job) r → ((ended r).status ≡ 0) ⊎ (((ended r).status ≡ 4) ⊎ (((ended r).status ≡ 5) ⊎ ((ended r).status ≡ 6)))
+job_status job h (Ok d) c = inl refl
+job_status job h (Err f) c = inr (comes_ends (MakesOut (Some job)) IsJobFault h (job_plan job) (Err f) (job_ends job) c)
 
 pub usage_only : (job : Option Job) (c : Call) → Keeps (plan_of job) c → c.status ≡ 2 → job ≡ None
 usage_only None c k two = refl
 usage_only (Some job) c k two =
-    let r = end_status (run_plan job) c k (λ e. absurd (grind (arith, two, e))) (λ e. absurd (grind (arith, two, e))) (λ e. absurd (grind (arith, two, e))) in
-    elim (run_status job c.before r.0 r.1) [
+    let r = end_status (job_plan job) c k (λ e. absurd (grind (arith, two, e))) (λ e. absurd (grind (arith, two, e))) (λ e. absurd (grind (arith, two, e))) in
+    elim (job_status job c.before r.0 r.1) [
       | inl e ↦ absurd (grind (arith, two, r.2, e))
       | inr x ↦ elim x [
         | inl e ↦ absurd (grind (arith, two, r.2, e))
@@ -105,8 +149,8 @@ end_statuses None c k three seven nine = elim (no_job None c k refl).1.statuses 
   | inr other ↦ elim other [ inl e ↦ absurd (nine e) | inr e ↦ absurd (seven e.1) ]
 ]
 end_statuses (Some job) c k three seven nine =
-    let r = end_status (run_plan job) c k three seven nine in
-    elim (run_status job c.before r.0 r.1) [
+    let r = end_status (job_plan job) c k three seven nine in
+    elim (job_status job c.before r.0 r.1) [
       | inl e ↦ inl (r.2 ∙ e)
       | inr x ↦ elim x [
         | inl e ↦ inr (inr (inr (inl (r.2 ∙ e))))
@@ -123,60 +167,124 @@ statuses job c k = elim (decided c.status 3) [
   ]
 ]
 
--- 4 comes only of an image that is too large
-too_large_image : (job : Job) (h : Held) (f : Fault) → Comes h (run_plan job) (Err f) → f.status ≡ 4
-    → (v : Values) × Comes h (settings_reading job.chip) (Ok v) × Comes h (image_reading v.imem job.image) (Err f)
-unfolding seat_reading
-too_large_image job h f c four = by_seat (comes_split h (seat_reading job) (report_step job.cycles) (Err f) c)
+-- 4 comes of the image alone: of a run
+run_image : (job : Run) (h : Held) (f : Refusal) → Comes h (run_plan job) (Err f) → f.status ≡ 4
+    → (v : Values) × Comes h (settings_reading job.chip) (Ok v) × Comes h (image_reading job.boot v.imem job.image) (Err f)
+unfolding power_on_reading
+run_image job h f c four = by_power_on (comes_split h (power_on_reading job) (report_step job.cycles) (Err f) c)
   where
-    err_same : {A : Type 0} {a b : Fault} → ◌≡◌ {A = Result A Fault} (Err a) (Err b) → a ≡ b
-    err_same e = cc
-
     by_image : (v : Values) → Comes h (settings_reading job.chip) (Ok v)
-        → ((e : Fault) × (◌≡◌ {A = Result ChipState Fault} (Err f) (Err e)) × Comes h (image_reading v.imem job.image) (Err e))
-        ⊎ ((image : List ℕ) × Comes h (image_reading v.imem job.image) (Ok image) × Comes h (image_step job v image) (Err f))
-        → (v : Values) × Comes h (settings_reading job.chip) (Ok v) × Comes h (image_reading v.imem job.image) (Err f)
-    by_image v s (inl x) = (v, s, subst (λ e. Comes h (image_reading v.imem job.image) (Err e)) (sym (err_same x.1)) x.2)
+        → ((e : Refusal) × (◌≡◌ {A = Result ChipState Refusal} (Err f) (Err e)) × Comes h (image_reading job.boot v.imem job.image) (Err e))
+        ⊎ ((image : List ℕ) × Comes h (image_reading job.boot v.imem job.image) (Ok image) × Comes h (image_step job v image) (Err f))
+        → (v : Values) × Comes h (settings_reading job.chip) (Ok v) × Comes h (image_reading job.boot v.imem job.image) (Err f)
+    by_image v s (inl x) = (v, s, subst (λ e. Comes h (image_reading job.boot v.imem job.image) (Err e)) (sym (err_same x.1)) x.2)
     by_image v s (inr x) = absurd (grind (arith, four, image_step_status x.2))
       where
         image_step_status : Comes h (image_step job v x.0) (Err f) → f.status ≡ 5
         image_step_status k = comes_ends Any (HasStatus 5) h (image_step job v x.0) (Err f)
             (ends_then Any Any (HasStatus 5) (script_reading job.script) _ (script_ends job.script) (λ script u. tt)) k
 
-    by_settings : ((e : Fault) × (◌≡◌ {A = Result ChipState Fault} (Err f) (Err e)) × Comes h (settings_reading job.chip) (Err e))
+    by_settings : ((e : Refusal) × (◌≡◌ {A = Result ChipState Refusal} (Err f) (Err e)) × Comes h (settings_reading job.chip) (Err e))
         ⊎ ((v : Values) × Comes h (settings_reading job.chip) (Ok v) × Comes h (settings_step job v) (Err f))
-        → (v : Values) × Comes h (settings_reading job.chip) (Ok v) × Comes h (image_reading v.imem job.image) (Err f)
+        → (v : Values) × Comes h (settings_reading job.chip) (Ok v) × Comes h (image_reading job.boot v.imem job.image) (Err f)
     by_settings (inl x) = absurd (grind (arith, four, comes_ends Any (HasStatus 6) h (settings_reading job.chip) (Err x.0) (settings_ends job.chip) x.2, ap (λ e. e.status) (err_same x.1)))
-    by_settings (inr x) = by_image x.0 x.1 (comes_split h (image_reading x.0.imem job.image) (image_step job x.0) (Err f) x.2)
+    by_settings (inr x) = by_image x.0 x.1 (comes_split h (image_reading job.boot x.0.imem job.image) (image_step job x.0) (Err f) x.2)
 
-    by_seat : ((e : Fault) × (◌≡◌ {A = Result Done Fault} (Err f) (Err e)) × Comes h (seat_reading job) (Err e))
-        ⊎ ((chip : ChipState) × Comes h (seat_reading job) (Ok chip) × Comes h (report_step job.cycles chip) (Err f))
-        → (v : Values) × Comes h (settings_reading job.chip) (Ok v) × Comes h (image_reading v.imem job.image) (Err f)
-    by_seat (inl x) = by_settings (comes_split h (settings_reading job.chip) (settings_step job) (Err f)
-        (subst (λ e. Comes h (seat_reading job) (Err e)) (sym (err_same x.1)) x.2))
-    by_seat (inr x) = absurd (cc)
+    by_power_on : ((e : Refusal) × (◌≡◌ {A = Result Done Refusal} (Err f) (Err e)) × Comes h (power_on_reading job) (Err e))
+        ⊎ ((chip : ChipState) × Comes h (power_on_reading job) (Ok chip) × Comes h (report_step job.cycles chip) (Err f))
+        → (v : Values) × Comes h (settings_reading job.chip) (Ok v) × Comes h (image_reading job.boot v.imem job.image) (Err f)
+    by_power_on (inl x) = by_settings (comes_split h (settings_reading job.chip) (settings_step job) (Err f)
+        (subst (λ e. Comes h (power_on_reading job) (Err e)) (sym (err_same x.1)) x.2))
+    by_power_on (inr x) = absurd (cc)
 
-pub too_large : (job : Option Job) (c : Call) → Keeps (plan_of job) c → c.status ≡ 4 → IsTooLarge job c
-too_large None c k four = absurd (elim (no_job None c k refl).1.statuses [
+-- and of the commands that make and check images, which read the room, then the image
+image_after_room : (chip : Option (List ℕ)) (p : ℕ → Reading (List ℕ)) (done : List ℕ → Done) (h : Held) (f : Refusal)
+    → Comes h (followed (room_reading chip) (λ room. followed (p room) (λ image. gives (done image)))) (Err f) → f.status ≡ 4
+    → (room : ℕ) × Comes h (room_reading chip) (Ok room) × Comes h (p room) (Err f)
+image_after_room chip p done h f c four = by_room (comes_split h (room_reading chip) _ (Err f) c)
+  where
+    by_image : (room : ℕ) → Comes h (room_reading chip) (Ok room)
+        → ((e : Refusal) × (◌≡◌ {A = Result Done Refusal} (Err f) (Err e)) × Comes h (p room) (Err e))
+        ⊎ ((image : List ℕ) × Comes h (p room) (Ok image) × Comes h (gives (done image)) (Err f))
+        → (room : ℕ) × Comes h (room_reading chip) (Ok room) × Comes h (p room) (Err f)
+    by_image room r (inl x) = (room, r, subst (λ e. Comes h (p room) (Err e)) (sym (err_same x.1)) x.2)
+    by_image room r (inr x) = absurd (cc)
+
+    by_room : ((e : Refusal) × (◌≡◌ {A = Result Done Refusal} (Err f) (Err e)) × Comes h (room_reading chip) (Err e))
+        ⊎ ((room : ℕ) × Comes h (room_reading chip) (Ok room) × Comes h (followed (p room) (λ image. gives (done image))) (Err f))
+        → (room : ℕ) × Comes h (room_reading chip) (Ok room) × Comes h (p room) (Err f)
+    by_room (inl x) = absurd (grind (arith, four, comes_ends Any (HasStatus 6) h (room_reading chip) (Err x.0) (room_ends chip) x.2, ap (λ e. e.status) (err_same x.1)))
+    by_room (inr x) = by_image x.0 x.1 (comes_split h (p x.0) _ (Err f) x.2)
+
+-- what was found wrong in the image or the payload
+pub record IsFaulty (job : Job) (h : Held) (f : Refusal) : Type 0 where
+  pub room : ℕ
+  pub bytes : List ℕ
+  pub fault : ImageFault
+  pub of_room : Comes h (room_of job) (Ok room)
+  pub is_read : IsRead h (image_name job) 2097152 bytes
+  pub faulty : fault_in job room bytes ≡ Some fault
+  pub told : f ≡ image_refusal fault
+
+faulty_image : (job : Job) (h : Held) (f : Refusal) → Comes h (job_plan job) (Err f) → f.status ≡ 4 → IsFaulty job h f
+faulty_image (run job) h f c four =
+    let image = run_image job h f c four in
+    let found = file_refusal h (boot_fault job.boot image.0.imem) (λ b. b) job.image f image.2 in
+    record {
+      room = image.0.imem;
+      bytes = found.0;
+      fault = found.1;
+      of_room = comes_then h (settings_reading job.chip) imem_step image.0 (Ok image.0.imem) image.1 refl;
+      is_read = found.2;
+      faulty = found.3;
+      told = found.4;
+    }
+faulty_image (makes job) h f c four =
+    let image = image_after_room job.chip (λ room. wrapped_reading room job.payload) _ h f c four in
+    let found = file_refusal h (payload_fault image.0) (λ b. image_of (padded b)) job.payload f image.2 in
+    record {
+      room = image.0;
+      bytes = found.0;
+      fault = found.1;
+      of_room = image.1;
+      is_read = found.2;
+      faulty = found.3;
+      told = found.4;
+    }
+faulty_image (checks job) h f c four =
+    let image = image_after_room job.chip (λ room. image_reading Direct room job.image) _ h f c four in
+    let found = file_refusal h (boot_fault Direct image.0) (λ b. b) job.image f image.2 in
+    record {
+      room = image.0;
+      bytes = found.0;
+      fault = found.1;
+      of_room = image.1;
+      is_read = found.2;
+      faulty = found.3;
+      told = found.4;
+    }
+
+pub refused_image : (job : Option Job) (c : Call) → Keeps (plan_of job) c → c.status ≡ 4 → IsRefusedImage job c
+refused_image None c k four = absurd (elim (no_job None c k refl).1.statuses [
   | inl e ↦ absurd (grind (arith, four, e))
   | inr other ↦ elim other [ inl e ↦ absurd (grind (arith, four, e)) | inr e ↦ absurd (grind (arith, four, e.1)) ]
 ])
-too_large (Some job) c k four =
-    let r = end_status (run_plan job) c k (λ e. absurd (grind (arith, four, e))) (λ e. absurd (grind (arith, four, e))) (λ e. absurd (grind (arith, four, e))) in
+refused_image (Some job) c k four =
+    let r = end_status (job_plan job) c k (λ e. absurd (grind (arith, four, e))) (λ e. absurd (grind (arith, four, e))) (λ e. absurd (grind (arith, four, e))) in
     by_end r.0 r.1 r.2 r.3
   where
-    by_end : (r : Result Done Fault) → Comes c.before (run_plan job) r → c.status ≡ (ended r).status → Tells (ended r) c → IsTooLarge (Some job) c
+    by_end : (r : Result Done Refusal) → Comes c.before (job_plan job) r → c.status ≡ (ended r).status → Tells (ended r) c → IsRefusedImage (Some job) c
     by_end (Ok d) comes same t = absurd (grind (arith, four, same))
     by_end (Err f) comes same t =
-        let image = too_large_image job c.before f comes (sym same ∙ four) in
-        let large = image_large c.before image.0.imem job.image f image.2 in
+        let found = faulty_image job c.before f comes (sym same ∙ four) in
         record {
-          run = job;
+          asked = job;
           is_job = refl;
-          settings = image.0;
-          bytes = large.0;
-          of_chip = image.1;
-          is_image = large.1;
-          large = large.2;
-          text = subst (λ e. WritesText e.text c) large.3 (answers_from (refused f) c t (λ e. absurd (grind (arith, four, e))) (λ e. absurd (grind (arith, four, e)))).text;
+          room = found.room;
+          bytes = found.bytes;
+          fault = found.fault;
+          of_room = found.of_room;
+          is_read = found.is_read;
+          faulty = found.faulty;
+          text = subst (λ e. WritesText e.text c) found.told (answers_from (refused f) c t (λ e. absurd (grind (arith, four, e))) (λ e. absurd (grind (arith, four, e)))).text;
         }

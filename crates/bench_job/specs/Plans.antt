@@ -1,36 +1,38 @@
--- What is read for a job, and what it is answered (definitions).
-use Rattle.std.specs.Prelude.{ℕ, List, Option, Some, None, codes}
-use Rattle.bench_inputs.specs.Inputs.{image_reading, script_reading, settings_reading}
+-- Definition: what is read for a job, and what it is answered.
+use Rattle.std.specs.Prelude.{ℕ, List, ◌++◌, length, drop, Option, Some, None, codes, decimal}
+use Rattle.bench_inputs.specs.Inputs.{image_reading, room_reading, script_reading, settings_reading, wrapped_reading}
 use Rattle.bench_plan.specs.Answers.{Done}
-use Rattle.bench_plan.specs.Readings.{Fault, Reading, followed, gives, refuses}
+use Rattle.bench_plan.specs.Readings.{Refusal, Reading, followed, gives, refuses}
 use Rattle.bench_report.specs.Report.{report, shown}
-use Rattle.bench_words.specs.Jobs.{Job}
+use Rattle.bench_words.specs.Jobs.{Checking, Job, Making, Run, checks, makes, run}
 use Rattle.chip_base.specs.Settings.{Values, values_of}
+use Rattle.chip_base.specs.declared.boot.Boot.TheVariants.{Direct}
 use Rattle.chip_base.specs.declared.script.Script.{Script}
 use Rattle.chip_whole.specs.Chip.{ChipState, after, bare, start}
-use Rattle.soc_words.specs.Text.{line}
+use Rattle.image_tool.specs.Image.{checksum}
+use Rattle.soc_words.specs.Text.{hex_word, line}
 use Rattle.bench_job.specs.declared.deed.Deed.{Deed}
 use Rattle.bench_job.specs.declared.deed.Deed.TheVariants.{Line, Report, Write}
-use Rattle.bench_job.specs.declared.seat.Seat.{Seat}
+use Rattle.bench_job.specs.declared.power_on.PowerOn.{PowerOn}
 
 unfoldable pub usage_text : List ℕ
 usage_text = line (codes "error usage")
 
-abbrev pub usage_fault : Fault
-usage_fault = record { status = 2; text = usage_text }
+abbrev pub usage_refusal : Refusal
+usage_refusal = record { status = 2; text = usage_text }
 
-abbrev pub script_step : Values → List ℕ → Script → Reading ChipState
-script_step v image script = gives (start v image script)
+abbrev pub script_step : Run → Values → List ℕ → Script → Reading ChipState
+script_step job v image script = gives (start v job.boot image script)
 
-abbrev pub image_step : Job → Values → List ℕ → Reading ChipState
-image_step job v image = followed (script_reading job.script) (script_step v image)
+abbrev pub image_step : Run → Values → List ℕ → Reading ChipState
+image_step job v image = followed (script_reading job.script) (script_step job v image)
 
-abbrev pub settings_step : Job → Values → Reading ChipState
-settings_step job v = followed (image_reading v.imem job.image) (image_step job v)
+abbrev pub settings_step : Run → Values → Reading ChipState
+settings_step job v = followed (image_reading job.boot v.imem job.image) (image_step job v)
 
 -- the chip at power-on: first the chip file is read, then the image, then the script
-unfoldable pub seat_reading : Job → Reading ChipState
-seat_reading job = followed (settings_reading job.chip) (settings_step job)
+unfoldable pub power_on_reading : Run → Reading ChipState
+power_on_reading job = followed (settings_reading job.chip) (settings_step job)
 
 -- the report of a chip after this many cycles
 abbrev pub report_done : ChipState → ℕ → Done
@@ -40,20 +42,55 @@ abbrev pub report_step : ℕ → ChipState → Reading Done
 report_step cycles chip = gives (report_done chip cycles)
 
 -- a run from power-on
-abbrev pub run_plan : Job → Reading Done
-run_plan job = followed (seat_reading job) (report_step job.cycles)
+abbrev pub run_plan : Run → Reading Done
+run_plan job = followed (power_on_reading job) (report_step job.cycles)
+
+-- the line of an image with this payload: the payload's length in bytes, and the checksum word
+unfoldable pub image_text : List ℕ → List ℕ
+image_text payload = line (codes "image " ++ decimal (length payload) ++ codes " " ++ hex_word (checksum payload))
+
+-- the line of an image, whose payload stands behind twelve bytes
+abbrev pub told_image : List ℕ → List ℕ
+told_image image = image_text (drop 12 image)
+
+-- the image of a payload is made in a file
+abbrev pub making_step : Making → List ℕ → Reading Done
+making_step job image = gives (record { text = told_image image; out = Some (record { name = job.out; bytes = image }) })
+
+abbrev pub making_room : Making → ℕ → Reading Done
+making_room job room = followed (wrapped_reading room job.payload) (making_step job)
+
+-- first the chip file is read, where one is named, and then the payload
+abbrev pub making_plan : Making → Reading Done
+making_plan job = followed (room_reading job.chip) (making_room job)
+
+-- an image is told
+abbrev pub checking_step : List ℕ → Reading Done
+checking_step image = gives (record { text = told_image image; out = None })
+
+abbrev pub checking_room : Checking → ℕ → Reading Done
+checking_room job room = followed (image_reading Direct room job.image) checking_step
+
+-- first the chip file is read, where one is named, and then the image
+abbrev pub checking_plan : Checking → Reading Done
+checking_plan job = followed (room_reading job.chip) (checking_room job)
+
+abbrev pub job_plan : Job → Reading Done
+job_plan (run job) = run_plan job
+job_plan (makes job) = making_plan job
+job_plan (checks job) = checking_plan job
 
 -- the plan of what the words ask for
 abbrev pub plan_of : Option Job → Reading Done
-plan_of None = refuses usage_fault
-plan_of (Some job) = run_plan job
+plan_of None = refuses usage_refusal
+plan_of (Some job) = job_plan job
 
--- the chip at power-on that a seat stands for
-abbrev pub seat_view : Seat → ChipState
-seat_view s = start (values_of s.setup) s.image.items s.script
+-- the chip at power-on that a power_on stands for
+abbrev pub power_on_view : PowerOn → ChipState
+power_on_view s = start (values_of s.setup) s.boot s.image.items s.script
 
 -- what a deed comes to
 abbrev pub done_of : Deed → Done
-done_of (Line text) = record { text = text.items; out = None }
-done_of (Write name bytes text) = record { text = text.items; out = Some (record { name = name.now; bytes = bytes.items }) }
-done_of (Report seat groups cycles) = report_done (seat_view seat) cycles
+done_of (Line text) = record { text = text; out = None }
+done_of (Write name bytes text) = record { text = text; out = Some (record { name = name.now; bytes = bytes.items }) }
+done_of (Report power_on groups cycles) = report_done (power_on_view power_on) cycles

@@ -1,33 +1,36 @@
 //! What is done for what the words ask for.
 ghost use Rattle.std.specs.Prelude.{map, string_bytes};
 ghost use Rattle.bench_plan.specs.Steps.{IsRefusal, Reads, mapped};
-ghost use Rattle.bench_words.specs.Jobs.{job_of, job_view};
-ghost use Rattle.bench_job.specs.Plans.{done_of, plan_of, run_plan, usage_fault};
+ghost use Rattle.bench_words.specs.Jobs.{checking_view, job_of, job_view, making_view, run_view};
+ghost use Rattle.bench_job.specs.Plans.{checking_plan, done_of, job_plan, making_plan, plan_of, run_plan, usage_refusal};
 
-use crate::files::read_seat;
-use crate::seat::Seat;
+use crate::files::read_power_on;
+use crate::image_line::image_line;
+use crate::power_on::PowerOn;
+use bench_inputs::{read_image, read_payload, read_room};
 use bench_plan::{Stop, refused};
 use bench_shelf::Shelf;
-use bench_words::{RunJob, read_job};
-use chip_base::{Groups, NoMemory};
+use bench_words::{CheckJob, ImageJob, Job, RunJob, read_job};
+use chip_base::{Boot, Groups, NoMemory};
 use std::alloc::Global;
+use text_line::Line;
 
 /// What is done for a job whose files are accepted.
 #[derive(Drop)]
 pub enum Deed<'a> {
     /// A line is written.
     Line {
-        text: Vec<u8>,
+        text: Line,
     },
     /// A file of this name is made, and then a line is written.
     Write {
         name: &'a str,
         bytes: Vec<u8>,
-        text: Vec<u8>,
+        text: Line,
     },
     /// A run of this many cycles from power-on, and its report. How the lanes are grouped doesn't change it.
     Report {
-        seat: Seat,
+        power_on: PowerOn,
         groups: Groups,
         cycles: u32,
     },
@@ -39,20 +42,63 @@ fn decide_run<'a, S: Shelf>(
     job: &RunJob<'a>,
     shelf: &mut S,
 ) -> Result<Deed<'a>, Stop>
-    ensures { Reads S.held shelf.old shelf.new (run_plan (job_view job.now)) (mapped done_of result) }
+    ensures { Reads S.held shelf.old shelf.new (run_plan (run_view job.now)) (mapped done_of result) }
 {
-    let seat = read_seat(alloc, job, shelf)?;
+    let power_on = read_power_on(alloc, job, shelf)?;
     Ok(Deed::Report {
-        seat,
+        power_on,
         groups: job.groups,
         cycles: job.cycles,
     })
 }
 
+/// Reads the payload of an image, and makes the image.
+fn decide_image<'a, S: Shelf>(
+    alloc: Global,
+    job: &ImageJob<'a>,
+    shelf: &mut S,
+) -> Result<Deed<'a>, Stop>
+    ensures { Reads S.held shelf.old shelf.new (making_plan (making_view job.now)) (mapped done_of result) }
+{
+    let room = read_room(alloc, job.chip, shelf)?;
+    let image = read_payload(alloc, room, job.payload, shelf)?;
+    let text = image_line(&image);
+    Ok(Deed::Write {
+        name: job.out,
+        bytes: image,
+        text,
+    })
+}
+
+/// Reads an image that is checked.
+fn decide_check<'a, S: Shelf>(
+    alloc: Global,
+    job: &CheckJob<'a>,
+    shelf: &mut S,
+) -> Result<Deed<'a>, Stop>
+    ensures { Reads S.held shelf.old shelf.new (checking_plan (checking_view job.now)) (mapped done_of result) }
+{
+    let room = read_room(alloc, job.chip, shelf)?;
+    let image = read_image(alloc, Boot::Direct, room, job.image, shelf)?;
+    let text = image_line(&image);
+    Ok(Deed::Line { text })
+}
+
+/// Reads the files of a job.
+fn decide_job<'a, S: Shelf>(alloc: Global, job: &Job<'a>, shelf: &mut S) -> Result<Deed<'a>, Stop>
+    ensures { Reads S.held shelf.old shelf.new (job_plan (job_view job.now)) (mapped done_of result) }
+{
+    match job {
+        Job::Run(job) => decide_run(alloc, job, shelf),
+        Job::Image(job) => decide_image(alloc, job, shelf),
+        Job::Check(job) => decide_check(alloc, job, shelf),
+    }
+}
+
 /// Refuses words that give no job.
 #[tactic(auto, unfolding(crate::specs::Plans::usage_text))]
 fn usage(alloc: Global) -> Stop
-    ensures { IsRefusal usage_fault result }
+    ensures { IsRefusal usage_refusal result }
 {
     refused(alloc, 2, b"error usage\n")
 }
@@ -68,6 +114,6 @@ pub fn decide<'a, S: Shelf>(
     match read_job(alloc, words) {
         Err(NoMemory) => Err(Stop::Memory),
         Ok(None) => Err(usage(alloc)),
-        Ok(Some(job)) => decide_run(alloc, &job, shelf),
+        Ok(Some(job)) => decide_job(alloc, &job, shelf),
     }
 }

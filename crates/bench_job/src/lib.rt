@@ -4,7 +4,8 @@
 mod call;
 mod deed;
 mod files;
-mod seat;
+mod image_line;
+mod power_on;
 mod tell;
 
 pub use call::perform;

@@ -7,7 +7,7 @@ use Rattle.soc_words.specs.Causes.{Rose, AppendsBeginning}
 use Rattle.bench_plan.specs.Answers.{Answer, Done, File, answer_in, done, ended, missed, refused}
 use Rattle.bench_plan.specs.Calls.{Call, ChangesOnly, FailsWrite, Tells, TellsStop}
 use Rattle.bench_plan.specs.Keeps.{Answers, CutsShort, IsFaultless, Keeps, MayMake, TellsWhole, answer_of}
-use Rattle.bench_plan.specs.Readings.{Fault, Reading}
+use Rattle.bench_plan.specs.Readings.{Refusal, Reading}
 use Rattle.bench_plan.specs.Steps.{Asks, Comes, Misses, ReadsBy, Results}
 use Rattle.bench_plan.specs.declared.stop.Stop.{Stop}
 use Rattle.bench_plan.specs.declared.stop.Stop.TheVariants.{Refused, Memory}
@@ -27,7 +27,7 @@ tells_from told old c s e t = record {
   disclosure = t.disclosure ∙ s.disclosure;
   reads = t.reads ∙ e;
   writes_later = subst (λ n. n ≤ c.after.write_faults) s.writes t.writes_later;
-  puts_later = t.puts_later;
+  sink_faults_later = t.sink_faults_later;
   statuses = t.statuses;
   beginning = t.beginning;
   whole = t.whole;
@@ -72,12 +72,12 @@ three_zero : ◌≡◌ {A = ℕ} 3 0 → ⊥
 three_zero e = absurd (cc)
 
 -- told whole, or memory was told
-whole_from : (told : Answer) (c : Call) → Tells told c → (Rose c.puts c.puts_after → ⊥) → (FailsWrite told.out c → ⊥)
+whole_from : (told : Answer) (c : Call) → Tells told c → (Rose c.sink_faults c.sink_faults_after → ⊥) → (FailsWrite told.out c → ⊥)
     → TellsWhole told c ⊎ ((c.status ≡ 9) × AppendsBeginning c.written c.written_after told.text)
-whole_from told c t puts writes = by_status told c t
-    (λ e. inl (record { status = e; text = elim (t.whole e) [ inl all ↦ all | inr rose ↦ absurd (puts rose) ]; files = (t.made e, t.changes) }))
+whole_from told c t sink_faults writes = by_status told c t
+    (λ e. inl (record { status = e; text = elim (t.whole e) [ inl all ↦ all | inr rose ↦ absurd (sink_faults rose) ]; files = (t.made e, t.changes) }))
     (λ e. inr (e, t.beginning))
-    (λ zero e. absurd (elim (t.cut_short e) [ inl failed ↦ writes failed | inr rest ↦ puts rest.0 ]))
+    (λ zero e. absurd (elim (t.cut_short e) [ inl failed ↦ writes failed | inr rest ↦ sink_faults rest.0 ]))
 
 pub answers_from : (told : Answer) (c : Call) → Tells told c → c.status ≢ 7 → c.status ≢ 9 → Answers told c
 answers_from told c t seven nine =
@@ -88,7 +88,7 @@ answers_from told c t seven nine =
       files = (t.made same, t.changes);
     }
 
-why_cut : (told : Answer) (c : Call) → Tells told c → c.status ≡ 7 → Rose c.puts c.puts_after ⊎ FailsWrite told.out c
+why_cut : (told : Answer) (c : Call) → Tells told c → c.status ≡ 7 → Rose c.sink_faults c.sink_faults_after ⊎ FailsWrite told.out c
 why_cut told c t seven = elim (t.cut_short seven) [ inl failed ↦ inr failed | inr rest ↦ inl rest.0 ]
 
 cuts_from : (told : Answer) (c : Call) → Tells told c → told.status ≢ 7 → c.status ≡ 7 → CutsShort told c
@@ -105,10 +105,10 @@ only_made plan c None q changes other = changes.1 q
 only_made plan c (Some f) q changes other = changes q (other f refl)
 
 -- what the plan comes to was told
-keeps_end : (plan : Reading Done) (c : Call) (end : Result Done Fault) → Comes c.before plan end → IsPlain (ended end).status → Tells (ended end) c → Keeps plan c
+keeps_end : (plan : Reading Done) (c : Call) (end : Result Done Refusal) → Comes c.before plan end → IsPlain (ended end).status → Tells (ended end) c → Keeps plan c
 keeps_end plan c end comes plain t = record {
   complete = λ discloses faultless. subst (λ a. TellsWhole a c ⊎ ((c.status ≡ 9) × AppendsBeginning c.written c.written_after a.text)) (sym (same discloses))
-      (whole_from (ended end) c t faultless.puts (λ failed. faultless.writes failed.0.name (made_here end comes failed.0 failed.1) failed.2));
+      (whole_from (ended end) c t faultless.sink_faults (λ failed. faultless.writes failed.0.name (made_here end comes failed.0 failed.1) failed.2));
   answered = λ discloses three seven nine. subst (λ a. Answers a c) (sym (same discloses)) (answers_from (ended end) c t seven nine);
   cut_short = λ discloses seven. subst (λ a. CutsShort a c) (sym (same discloses)) (cuts_from (ended end) c t plain.no_failure seven);
   refused = λ three. absurd (not_three three);
@@ -124,37 +124,37 @@ keeps_end plan c end comes plain t = record {
   disclosure = t.disclosure;
   reads_later = omega (arith, t.reads);
   writes_later = t.writes_later;
-  puts_later = t.puts_later;
+  sink_faults_later = t.sink_faults_later;
 }
   where
     same : IsTrue c.before.discloses → answer_of plan c ≡ ended end
     same discloses = comes_answer c.before plan end discloses comes
 
-    made_here : (r : Result Done Fault) → Comes c.before plan r → (f : File) → (ended r).out ≡ Some f → MayMake plan c f.name
+    made_here : (r : Result Done Refusal) → Comes c.before plan r → (f : File) → (ended r).out ≡ Some f → MayMake plan c f.name
     made_here (Ok d) k f e = (d, f, k, e, refl)
-    made_here (Err fault) k f e = absurd (cc)
+    made_here (Err refusal) k f e = absurd (cc)
 
     not_three : c.status ≡ 3 → ⊥
     not_three three = by_status (ended end) c t (λ e. plain.no_miss (sym e ∙ three)) (λ e. apart e three nine_three) (λ zero e. apart e three seven_three)
 
-    kept_by : (r : Result Done Fault) → Tells (ended r) c → c.status ≢ 0 → c.status ≢ 7 → c.status ≢ 9
+    kept_by : (r : Result Done Refusal) → Tells (ended r) c → c.status ≢ 0 → c.status ≢ 7 → c.status ≢ 9
         → (q : List ℕ) → c.after.file q ≡ c.before.file q
     kept_by (Ok d) t zero seven nine q = absurd (by_status (done d) c t zero nine (λ z e. seven e))
-    kept_by (Err fault) t zero seven nine q = t.changes.1 q
+    kept_by (Err refusal) t zero seven nine q = t.changes.1 q
 
     unwritten_by : (d : Done) (out : Option File) → d.out ≡ out → Comes c.before plan (Ok d) → ChangesOnly out c.before c.after → ((q : List ℕ) → MayMake plan c q → ⊥)
         → c.after.write_faults ≡ c.before.write_faults
     unwritten_by d None e k changes none = changes.0
     unwritten_by d (Some f) e k changes none = absurd (none f.name (d, f, k, e, refl))
 
-    unwritten : (r : Result Done Fault) → Comes c.before plan r → ChangesOnly (ended r).out c.before c.after → ((q : List ℕ) → MayMake plan c q → ⊥)
+    unwritten : (r : Result Done Refusal) → Comes c.before plan r → ChangesOnly (ended r).out c.before c.after → ((q : List ℕ) → MayMake plan c q → ⊥)
         → c.after.write_faults ≡ c.before.write_faults
     unwritten (Ok d) k changes none = unwritten_by d d.out refl k changes none
-    unwritten (Err fault) k changes none = changes.0
+    unwritten (Err refusal) k changes none = changes.0
 
-    made_by : (r : Result Done Fault) → Comes c.before plan r → (f : File) → (ended r).out ≡ Some f → (q : List ℕ) → (MayMake plan c q → ⊥) → q ≡ f.name → ⊥
+    made_by : (r : Result Done Refusal) → Comes c.before plan r → (f : File) → (ended r).out ≡ Some f → (q : List ℕ) → (MayMake plan c q → ⊥) → q ≡ f.name → ⊥
     made_by (Ok d) k f e q other named = other (d, f, k, e, named)
-    made_by (Err fault) k f e q other named = absurd (cc)
+    made_by (Err refusal) k f e q other named = absurd (cc)
 
 -- a file isn't read
 misses_answer : (old new : Held) (plan : Reading Done) (text : List ℕ) → Misses old new plan text → IsTrue old.discloses
@@ -218,7 +218,7 @@ keeps_miss plan old c text s before_misses t = record {
   disclosure = t.disclosure ∙ s.disclosure;
   reads_later = omega (arith, t.reads, s.later);
   writes_later = omega (arith, t.writes_later, s.writes);
-  puts_later = t.puts_later;
+  sink_faults_later = t.sink_faults_later;
 }
   where
     m : Misses old c.after plan text
@@ -231,16 +231,16 @@ keeps_miss plan old c text s before_misses t = record {
     whole discloses faultless = by_status (missed text) c t
         (λ e. inl (record {
           status = e;
-          text = elim (t.whole e) [ inl all ↦ all | inr rose ↦ absurd (faultless.puts rose) ];
+          text = elim (t.whole e) [ inl all ↦ all | inr rose ↦ absurd (faultless.sink_faults rose) ];
           files = (tt, (t.changes.0 ∙ s.writes, λ q. t.changes.1 q ∙ s.files q));
         }))
         (λ e. inr (e, t.beginning))
         (λ z e. absurd (three_zero z))
 
 -- memory was told before anything was told
-keeps_want : (plan : Reading Done) (c : Call) → c.status ≡ 9 → Stays c.before c.after → c.written_after ≡ c.written → c.puts_after ≡ c.puts
+keeps_want : (plan : Reading Done) (c : Call) → c.status ≡ 9 → Stays c.before c.after → c.written_after ≡ c.written → c.sink_faults_after ≡ c.sink_faults
     → (c.after.read_faults ≡ c.before.read_faults) ⊎ ((name : List ℕ) × (limit : ℕ) × Asks c.before plan name limit) → Keeps plan c
-keeps_want plan c nine s silent puts reads = record {
+keeps_want plan c nine s silent sink_faults reads = record {
   complete = λ discloses faultless. inr (nine, record { front = []; back = (answer_of plan c).text; whole = refl; new_is = silent ∙ appended_none c.written });
   answered = λ discloses three seven other. absurd (other nine);
   cut_short = λ discloses seven. absurd (apart nine seven nine_seven);
@@ -257,7 +257,7 @@ keeps_want plan c nine s silent puts reads = record {
   disclosure = s.disclosure;
   reads_later = s.later;
   writes_later = omega (arith, s.writes);
-  puts_later = omega (arith, puts);
+  sink_faults_later = omega (arith, sink_faults);
 }
 
 -- a plan that was followed to its end
@@ -267,41 +267,41 @@ keeps_done plan old c d r t =
     (tells_from (done d) old c r.stays r.results.0 t)
 
 -- a job that is refused
-keeps_fault : (plan : Reading Done) (old : Held) (c : Call) (fault : Fault) → Stays old c.before → fault.status ≢ 7 → fault.status ≢ 9
-    → Results old c.before plan (Err (Refused fault)) → Tells (refused fault) c → Keeps plan (from old c)
-keeps_fault plan old c fault s seven nine (inl r) t =
-    keeps_end plan (from old c) (Err fault) r.2 (record { no_miss = r.1; no_failure = seven; no_want = nine }) (tells_from (refused fault) old c s r.0 t)
-keeps_fault plan old c fault s seven nine (inr m) t =
-    keeps_miss plan old c fault.text s m.1 (subst (λ n. Tells (record { status = n; text = fault.text; out = None }) c) m.0 t)
+keeps_fault : (plan : Reading Done) (old : Held) (c : Call) (refusal : Refusal) → Stays old c.before → refusal.status ≢ 7 → refusal.status ≢ 9
+    → Results old c.before plan (Err (Refused refusal)) → Tells (refused refusal) c → Keeps plan (from old c)
+keeps_fault plan old c refusal s seven nine (inl r) t =
+    keeps_end plan (from old c) (Err refusal) r.2 (record { no_miss = r.1; no_failure = seven; no_want = nine }) (tells_from (refused refusal) old c s r.0 t)
+keeps_fault plan old c refusal s seven nine (inr m) t =
+    keeps_miss plan old c refusal.text s m.1 (subst (λ n. Tells (record { status = n; text = refusal.text; out = None }) c) m.0 t)
 
 -- why a job isn't done was told
-pub keeps_stopped : (plan : Reading Done) (old new : Held) (written written_after : Option (List ℕ)) (puts puts_after status : ℕ) (stop : Stop) → ReadsBy old new plan (Err stop)
-    → TellsStop stop written written_after puts puts_after status → Keeps plan (record {
+pub keeps_stopped : (plan : Reading Done) (old new : Held) (written written_after : Option (List ℕ)) (sink_faults sink_faults_after status : ℕ) (stop : Stop) → ReadsBy old new plan (Err stop)
+    → TellsStop stop written written_after sink_faults sink_faults_after status → Keeps plan (record {
       before = old;
       after = new;
       written = written;
       written_after = written_after;
-      puts = puts;
-      puts_after = puts_after;
+      sink_faults = sink_faults;
+      sink_faults_after = sink_faults_after;
       status = status;
     })
-keeps_stopped plan old new written written_after puts puts_after status (Refused fault) r t =
+keeps_stopped plan old new written written_after sink_faults sink_faults_after status (Refused refusal) r t =
     keeps_fault plan old (record {
       before = new;
       after = new;
       written = written;
       written_after = written_after;
-      puts = puts;
-      puts_after = puts_after;
+      sink_faults = sink_faults;
+      sink_faults_after = sink_faults_after;
       status = status;
-    }) fault r.stays t.0 t.1 r.results (t.2 new)
-keeps_stopped plan old new written written_after puts puts_after status Memory r t =
+    }) refusal r.stays t.0 t.1 r.results (t.2 new)
+keeps_stopped plan old new written written_after sink_faults sink_faults_after status Memory r t =
     keeps_want plan (record {
       before = old;
       after = new;
       written = written;
       written_after = written_after;
-      puts = puts;
-      puts_after = puts_after;
+      sink_faults = sink_faults;
+      sink_faults_after = sink_faults_after;
       status = status;
     }) t.0 r.stays t.1 t.2 r.results

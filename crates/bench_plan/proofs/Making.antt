@@ -8,17 +8,17 @@ use Rattle.bench_plan.specs.Answers.{File, done}
 use Rattle.bench_plan.specs.Calls.{Call, Tells, TellsText}
 
 abbrev pub unmade : Held → Held → Option (List ℕ) → ℕ → ℕ → Call
-unmade old new written puts status =
-    record { before = old; after = new; written = written; written_after = written; puts = puts; puts_after = puts; status = status }
+unmade old new written sink_faults status =
+    record { before = old; after = new; written = written; written_after = written; sink_faults = sink_faults; sink_faults_after = sink_faults; status = status }
 
 -- the write of the file failed
-pub made_failed : (f : File) (text : List ℕ) (old new : Held) (written : Option (List ℕ)) (puts : ℕ) → StaysBut f.name old new → Rose old.write_faults new.write_faults
-    → Tells (done (record { text = text; out = Some f })) (unmade old new written puts 7)
-made_failed f text old new written puts s rose = record {
+pub made_failed : (f : File) (text : List ℕ) (old new : Held) (written : Option (List ℕ)) (sink_faults : ℕ) → StaysBut f.name old new → Rose old.write_faults new.write_faults
+    → Tells (done (record { text = text; out = Some f })) (unmade old new written sink_faults 7)
+made_failed f text old new written sink_faults s rose = record {
   disclosure = s.disclosure;
   reads = s.reads;
   writes_later = s.later;
-  puts_later = omega arith;
+  sink_faults_later = omega arith;
   statuses = inr (inr (refl, refl));
   beginning = record { front = []; back = text; whole = refl; new_is = appended_none written };
   whole = λ e. absurd (cc);
@@ -29,13 +29,13 @@ made_failed f text old new written puts s rose = record {
 }
 
 -- memory was wanted for the write
-pub made_wanting : (f : File) (text : List ℕ) (old new : Held) (written : Option (List ℕ)) (puts : ℕ) → StaysBut f.name old new
-    → Tells (done (record { text = text; out = Some f })) (unmade old new written puts 9)
-made_wanting f text old new written puts s = record {
+pub made_wanting : (f : File) (text : List ℕ) (old new : Held) (written : Option (List ℕ)) (sink_faults : ℕ) → StaysBut f.name old new
+    → Tells (done (record { text = text; out = Some f })) (unmade old new written sink_faults 9)
+made_wanting f text old new written sink_faults s = record {
   disclosure = s.disclosure;
   reads = s.reads;
   writes_later = s.later;
-  puts_later = omega arith;
+  sink_faults_later = omega arith;
   statuses = inr (inl refl);
   beginning = record { front = []; back = text; whole = refl; new_is = appended_none written };
   whole = λ e. absurd (cc);
@@ -49,26 +49,26 @@ none_some : {f : File} → ◌≡◌ {A = Option File} None (Some f) → ⊥
 none_some e = absurd (cc)
 
 -- the file was made, and then a line was told
-pub made_told : (f : File) (text : List ℕ) (old new : Held) (written written_after : Option (List ℕ)) (puts puts_after status : ℕ) → StaysBut f.name old new
+pub made_told : (f : File) (text : List ℕ) (old new : Held) (written written_after : Option (List ℕ)) (sink_faults sink_faults_after status : ℕ) → StaysBut f.name old new
     → new.write_faults ≡ old.write_faults → (IsTrue old.discloses → new.file f.name ≡ Some f.bytes)
-    → TellsText (done (record { text = text; out = None })) written written_after puts puts_after status
+    → TellsText (done (record { text = text; out = None })) written written_after sink_faults sink_faults_after status
     → Tells (done (record { text = text; out = Some f })) (record {
       before = old;
       after = new;
       written = written;
       written_after = written_after;
-      puts = puts;
-      puts_after = puts_after;
+      sink_faults = sink_faults;
+      sink_faults_after = sink_faults_after;
       status = status;
     })
-made_told f text old new written written_after puts puts_after status s quiet made told =
+made_told f text old new written written_after sink_faults sink_faults_after status s quiet made told =
     let t = told new in
     let here : IsTrue new.discloses → new.file f.name ≡ Some f.bytes = λ d. made (subst (λ b. IsTrue b) s.disclosure d) in
     record {
       disclosure = s.disclosure;
       reads = s.reads;
       writes_later = s.later;
-      puts_later = t.puts_later;
+      sink_faults_later = t.sink_faults_later;
       statuses = t.statuses;
       beginning = t.beginning;
       whole = t.whole;

@@ -4,52 +4,52 @@ use Rattle.std.specs.Prelude.{◌⊎◌, IsTrue, IsErrAnd}
 use Rattle.bench_shelf.specs.Held.{Held, Stays}
 use Rattle.soc_words.specs.Causes.{Rose}
 use Rattle.bench_plan.specs.Answers.{long_text, unread_text}
-use Rattle.bench_plan.specs.Readings.{Fault, Reading, gives, refuses, asks, followed, asking, judged}
+use Rattle.bench_plan.specs.Readings.{Refusal, Reading, gives, refuses, asks, followed, asking, judged}
 use Rattle.bench_plan.specs.Steps.{Asks, Comes, IsRefusal, IsRead, IsTooLong, IsUnread, Judges, Misses, ReadsBy, Results, mapped}
 use Rattle.bench_plan.specs.declared.stop.Stop.{Stop}
 use Rattle.bench_plan.specs.declared.stop.Stop.TheVariants.{Refused, Memory}
 
-ok_same : {A : Type 0} {a b : A} → ◌≡◌ {A = Result A Fault} (Ok a) (Ok b) → a ≡ b
+ok_same : {A : Type 0} {a b : A} → ◌≡◌ {A = Result A Refusal} (Ok a) (Ok b) → a ≡ b
 ok_same e = cc
 
 -- a shelf that discloses the same files
 read_moved : {old mid : Held} (name : List ℕ) (limit : ℕ) (bytes : List ℕ) → Stays old mid → IsRead mid name limit bytes → IsRead old name limit bytes
 read_moved name limit bytes s r = (r.0, λ t. sym (s.files name) ∙ r.1 (subst IsTrue (sym s.disclosure) t))
 
-pub comes_moved : {A : Type 0} {old mid : Held} (p : Reading A) (r : Result A Fault) → Stays old mid → Comes mid p r → Comes old p r
+pub comes_moved : {A : Type 0} {old mid : Held} (p : Reading A) (r : Result A Refusal) → Stays old mid → Comes mid p r → Comes old p r
 comes_moved (gives a) r s c = c
-comes_moved (refuses fault) r s c = c
+comes_moved (refuses refusal) r s c = c
 comes_moved (asks name limit next) r s c = (c.0, read_moved name limit c.0 s c.1, comes_moved (next c.0) r s c.2)
 
 asks_moved : {A : Type 0} {old mid : Held} (p : Reading A) (name : List ℕ) (limit : ℕ) → Stays old mid → Asks mid p name limit → Asks old p name limit
 asks_moved (gives a) name limit s c = c
-asks_moved (refuses fault) name limit s c = c
+asks_moved (refuses refusal) name limit s c = c
 asks_moved (asks n l next) name limit s (inl here) = inl here
 asks_moved (asks n l next) name limit s (inr c) = inr (c.0, read_moved n l c.0 s c.1, asks_moved (next c.0) name limit s c.2)
 
 -- one reading, and then the next one
-pub comes_then : {A B : Type 0} (h : Held) (p : Reading A) (f : A → Reading B) (a : A) (r : Result B Fault) → Comes h p (Ok a) → Comes h (f a) r → Comes h (followed p f) r
+pub comes_then : {A B : Type 0} (h : Held) (p : Reading A) (f : A → Reading B) (a : A) (r : Result B Refusal) → Comes h p (Ok a) → Comes h (f a) r → Comes h (followed p f) r
 comes_then h (gives b) f a r c d = subst (λ x. Comes h (f x) r) (ok_same c) d
-comes_then h (refuses fault) f a r c d = absurd (cc)
+comes_then h (refuses refusal) f a r c d = absurd (cc)
 comes_then h (asks name limit next) f a r c d = (c.0, c.1, comes_then h (next c.0) f a r c.2 d)
 
-comes_stop : {A B : Type 0} (h : Held) (p : Reading A) (f : A → Reading B) (fault : Fault) → Comes h p (Err fault) → Comes h (followed p f) (Err fault)
-comes_stop h (gives b) f fault c = absurd (cc)
-comes_stop h (refuses e) f fault c = cc
-comes_stop h (asks name limit next) f fault c = (c.0, c.1, comes_stop h (next c.0) f fault c.2)
+comes_stop : {A B : Type 0} (h : Held) (p : Reading A) (f : A → Reading B) (refusal : Refusal) → Comes h p (Err refusal) → Comes h (followed p f) (Err refusal)
+comes_stop h (gives b) f refusal c = absurd (cc)
+comes_stop h (refuses e) f refusal c = cc
+comes_stop h (asks name limit next) f refusal c = (c.0, c.1, comes_stop h (next c.0) f refusal c.2)
 
 asks_then : {A B : Type 0} (h : Held) (p : Reading A) (f : A → Reading B) (a : A) (name : List ℕ) (limit : ℕ) → Comes h p (Ok a) → Asks h (f a) name limit → Asks h (followed p f) name limit
 asks_then h (gives b) f a name limit c d = subst (λ x. Asks h (f x) name limit) (ok_same c) d
-asks_then h (refuses fault) f a name limit c d = absurd (cc)
+asks_then h (refuses refusal) f a name limit c d = absurd (cc)
 asks_then h (asks n l next) f a name limit c d = inr (c.0, c.1, asks_then h (next c.0) f a name limit c.2 d)
 
 asks_stop : {A B : Type 0} (h : Held) (p : Reading A) (f : A → Reading B) (name : List ℕ) (limit : ℕ) → Asks h p name limit → Asks h (followed p f) name limit
 asks_stop h (gives b) f name limit d = absurd d
-asks_stop h (refuses fault) f name limit d = absurd d
+asks_stop h (refuses refusal) f name limit d = absurd d
 asks_stop h (asks n l next) f name limit (inl here) = inl here
 asks_stop h (asks n l next) f name limit (inr d) = inr (d.0, d.1, asks_stop h (next d.0) f name limit d.2)
 
--- why a file isn't read, after reads without a fault
+-- why a file isn't read, after reads without a refusal
 unread_moved : (old mid new : Held) (name : List ℕ) → Stays old mid → mid.read_faults ≡ old.read_faults → IsUnread mid new name → IsUnread old new name
 unread_moved old mid new name s e (inl u) = inl (subst IsTrue s.disclosure u.0, sym (s.files name) ∙ u.1)
 unread_moved old mid new name s e (inr rose) = inr (subst (λ n. Rose n new.read_faults) e rose)
@@ -88,15 +88,15 @@ misses_stop {old = old} p f text m = record { name = m.name; limit = m.limit; as
 results_then : {A B : Type 0} (old mid new : Held) (p : Reading A) (f : A → Reading B) (a : A) (r : Result B Stop) → Stays old mid
     → Results old mid p (Ok a) → Results mid new (f a) r → Results old new (followed p f) r
 results_then old mid new p f a (Ok b) s x y = (y.0 ∙ x.0, comes_then old p f a (Ok b) x.1 (comes_moved (f a) (Ok b) s y.1))
-results_then old mid new p f a (Err (Refused fault)) s x (inl y) = inl (y.0 ∙ x.0, y.1, comes_then old p f a (Err fault) x.1 (comes_moved (f a) (Err fault) s y.2))
-results_then old mid new p f a (Err (Refused fault)) s x (inr y) = inr (y.0, misses_then old mid new p f a fault.text s x.0 x.1 y.1)
+results_then old mid new p f a (Err (Refused refusal)) s x (inl y) = inl (y.0 ∙ x.0, y.1, comes_then old p f a (Err refusal) x.1 (comes_moved (f a) (Err refusal) s y.2))
+results_then old mid new p f a (Err (Refused refusal)) s x (inr y) = inr (y.0, misses_then old mid new p f a refusal.text s x.0 x.1 y.1)
 results_then old mid new p f a (Err Memory) s x (inl y) = inl (y ∙ x.0)
 results_then old mid new p f a (Err Memory) s x (inr y) = inr (y.0, y.1, asks_then old p f a y.0 y.1 x.1 (asks_moved (f a) y.0 y.1 s y.2))
 
 results_stop : {A B : Type 0} (old new : Held) (p : Reading A) (f : A → Reading B) (stop : Stop)
     → Results old new p (Err stop) → Results old new (followed p f) (Err stop)
-results_stop old new p f (Refused fault) (inl y) = inl (y.0, y.1, comes_stop old p f fault y.2)
-results_stop old new p f (Refused fault) (inr y) = inr (y.0, misses_stop p f fault.text y.1)
+results_stop old new p f (Refused refusal) (inl y) = inl (y.0, y.1, comes_stop old p f refusal y.2)
+results_stop old new p f (Refused refusal) (inr y) = inr (y.0, misses_stop p f refusal.text y.1)
 results_stop old new p f Memory (inl y) = inl y
 results_stop old new p f Memory (inr y) = inr (y.0, y.1, asks_stop old p f y.0 y.1 y.2)
 
@@ -128,20 +128,20 @@ pub reads_gives : {A : Type 0} (h : Held) (a b : A) → b ≡ a → ReadsBy h h 
 reads_gives h a b e = rw e (reads_none h a)
 
 -- what was judged without a file
-pub reads_judged : {A : Type 0} (h : Held) (means : Result A Fault) (r : Result A Stop) → Judges means r → ReadsBy h h (judged means) r
+pub reads_judged : {A : Type 0} (h : Held) (means : Result A Refusal) (r : Result A Stop) → Judges means r → ReadsBy h h (judged means) r
 reads_judged h means (Ok a) j = rw j (reads_none h a)
-reads_judged h means (Err (Refused fault)) j = rw j.1 (record { stays = stays_same h; results = inl (refl, j.0, refl) })
+reads_judged h means (Err (Refused refusal)) j = rw j.1 (record { stays = stays_same h; results = inl (refl, j.0, refl) })
 reads_judged h means (Err Memory) j = record { stays = stays_same h; results = inl refl }
 
 -- a refusal by a judge
-pub judges_refused : {A : Type 0} (means : Result A Fault) (fault : Fault) (stop : Stop) → fault.status ≢ 3 → means ≡ Err fault → IsRefusal fault stop → Judges means (Err stop)
-judges_refused means fault (Refused f) three is r = (λ e. three (ap (λ x. x.status) (sym r) ∙ e), is ∙ ap Err (sym r))
-judges_refused means fault Memory three is r = tt
+pub judges_refused : {A : Type 0} (means : Result A Refusal) (refusal : Refusal) (stop : Stop) → refusal.status ≢ 3 → means ≡ Err refusal → IsRefusal refusal stop → Judges means (Err stop)
+judges_refused means refusal (Refused f) three is r = (λ e. three (ap (λ x. x.status) (sym r) ∙ e), is ∙ ap Err (sym r))
+judges_refused means refusal Memory three is r = tt
 
 -- a refusal before anything is read
-pub reads_refused : {A : Type 0} (h : Held) (fault : Fault) (stop : Stop) → fault.status ≢ 3 → IsRefusal fault stop → ReadsBy {A = A} h h (refuses fault) (Err stop)
-reads_refused h fault (Refused f) three r = record { stays = stays_same h; results = inl (refl, λ e. three (ap (λ x. x.status) (sym r) ∙ e), ap Err r) }
-reads_refused h fault Memory three r = record { stays = stays_same h; results = inl refl }
+pub reads_refused : {A : Type 0} (h : Held) (refusal : Refusal) (stop : Stop) → refusal.status ≢ 3 → IsRefusal refusal stop → ReadsBy {A = A} h h (refuses refusal) (Err stop)
+reads_refused h refusal (Refused f) three r = record { stays = stays_same h; results = inl (refl, λ e. three (ap (λ x. x.status) (sym r) ∙ e), ap Err r) }
+reads_refused h refusal Memory three r = record { stays = stays_same h; results = inl refl }
 
 -- want of memory before anything is read
 pub reads_want : {A : Type 0} (h : Held) (p : Reading A) → ReadsBy h h p (Err Memory)
@@ -153,7 +153,7 @@ reads_want_exit h p g (Err d) e = rw e (reads_want h p)
 reads_want_exit h p g (Ok c) e = absurd e
 
 -- a file that is read and then judged
-pub reads_meant : {A : Type 0} {old new : Held} {p : Reading (List ℕ)} {bytes : List ℕ} (means : List ℕ → Result A Fault) (r : Result A Stop)
+pub reads_meant : {A : Type 0} {old new : Held} {p : Reading (List ℕ)} {bytes : List ℕ} (means : List ℕ → Result A Refusal) (r : Result A Stop)
     → ReadsBy old new p (Ok bytes) → Judges (means bytes) r → ReadsBy old new (followed p (λ b. judged (means b))) r
 reads_meant {new = new} {bytes = bytes} means r x j = reads_then (λ b. judged (means b)) r x (reads_judged new (means bytes) r j)
 
@@ -165,13 +165,13 @@ reads_file name limit bytes s e le discloses = record { stays = s; results = (e,
 -- a file that isn't read
 pub reads_unread : {old new : Held} (name : List ℕ) (limit : ℕ) (stop : Stop) → Stays old new → IsRefusal (record { status = 3; text = unread_text name }) stop → IsUnread old new name
     → ReadsBy old new (asking name limit) (Err stop)
-reads_unread name limit (Refused fault) s m u =
+reads_unread name limit (Refused refusal) s m u =
     record { stays = s; results = inr (ap (λ f. f.status) m, record { name = name; limit = limit; asked = inl (refl, refl); why = inl (ap (λ f. f.text) m, u) }) }
 reads_unread name limit Memory s m u = record { stays = s; results = inr (name, limit, inl (refl, refl)) }
 
 pub reads_too_long : {old new : Held} (name : List ℕ) (limit : ℕ) (stop : Stop) → Stays old new → IsRefusal (record { status = 3; text = long_text name }) stop → IsTooLong old new name limit
     → ReadsBy old new (asking name limit) (Err stop)
-reads_too_long name limit (Refused fault) s m u =
+reads_too_long name limit (Refused refusal) s m u =
     record { stays = s; results = inr (ap (λ f. f.status) m, record { name = name; limit = limit; asked = inl (refl, refl); why = inr (ap (λ f. f.text) m, u) }) }
 reads_too_long name limit Memory s m u = record { stays = s; results = inr (name, limit, inl (refl, refl)) }
 

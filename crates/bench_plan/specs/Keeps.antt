@@ -3,7 +3,7 @@ use Rattle.std.specs.Prelude.{◌≡◌, ◌≢◌, ℕ, ◌≤◌, ◌⊎◌, I
 use Rattle.soc_words.specs.Causes.{Rose, appended, AppendsBeginning}
 use Rattle.bench_plan.specs.Answers.{Answer, Done, File, answer_in, ended, missed}
 use Rattle.bench_plan.specs.Calls.{Call, ChangesOnly, FailsWrite, IsMade, Tells, WritesText}
-use Rattle.bench_plan.specs.Readings.{Fault, Reading}
+use Rattle.bench_plan.specs.Readings.{Refusal, Reading}
 use Rattle.bench_plan.specs.Steps.{Asks, Comes, Misses}
 
 abbrev pub answer_of : Reading Done → Call → Answer
@@ -17,7 +17,7 @@ MayMake plan c name = (d : Done) × (f : File) × Comes c.before plan (Ok d) × 
 pub record IsFaultless (plan : Reading Done) (c : Call) : Type 0 where
   pub reads : Rose c.before.read_faults c.after.read_faults → ⊥
   pub writes : (name : List ℕ) → MayMake plan c name → Rose c.before.write_faults c.after.write_faults → ⊥
-  pub puts : Rose c.puts c.puts_after → ⊥
+  pub sink_faults : Rose c.sink_faults c.sink_faults_after → ⊥
 
 -- the files afterwards are those of the answer
 abbrev pub LeavesFiles : Option File → Call → Type 0
@@ -40,7 +40,7 @@ pub record CutsShort (told : Answer) (c : Call) : Type 0 where
   pub done : told.status ≡ 0
   pub text : AppendsBeginning c.written c.written_after told.text
   pub files : (Rose c.before.write_faults c.after.write_faults → ⊥) → LeavesFiles told.out c
-  pub why : Rose c.puts c.puts_after ⊎ FailsWrite told.out c
+  pub why : Rose c.sink_faults c.sink_faults_after ⊎ FailsWrite told.out c
 
 -- a file isn't read, and its line was told
 pub record Refuses (plan : Reading Done) (c : Call) : Type 0 where
@@ -53,7 +53,7 @@ pub record Refuses (plan : Reading Done) (c : Call) : Type 0 where
 
 -- a beginning of what the plan comes to was appended
 pub record BeginsAnswer (plan : Reading Done) (c : Call) : Type 0 where
-  pub end : Result Done Fault
+  pub end : Result Done Refusal
   pub comes : Comes c.before plan end
   pub text : AppendsBeginning c.written c.written_after (ended end).text
 
@@ -65,7 +65,7 @@ pub record BeginsRefusal (plan : Reading Done) (c : Call) : Type 0 where
 
 -- no read failed, and what the plan comes to was told
 pub record Follows (plan : Reading Done) (c : Call) : Type 0 where
-  pub end : Result Done Fault
+  pub end : Result Done Refusal
   pub comes : Comes c.before plan end
   pub tells : Tells (ended end) c
 
@@ -85,8 +85,8 @@ pub record Keeps (plan : Reading Done) (c : Call) : Type 0 where
   pub ran : c.status ≢ 3 → c.status ≢ 9 → Follows plan c
   -- each status has its cause
   pub read : c.status ≡ 3 → Rose c.before.read_faults c.after.read_faults ⊎ (IsTrue c.before.discloses × ((answer_of plan c).status ≡ 3))
-  pub write : c.status ≡ 7 → Rose c.puts c.puts_after ⊎ ((name : List ℕ) × MayMake plan c name × Rose c.before.write_faults c.after.write_faults)
-  pub done : c.status ≡ 0 → (c.after.read_faults ≡ c.before.read_faults) × (c.after.write_faults ≡ c.before.write_faults) × (c.puts_after ≡ c.puts)
+  pub write : c.status ≡ 7 → Rose c.sink_faults c.sink_faults_after ⊎ ((name : List ℕ) × MayMake plan c name × Rose c.before.write_faults c.after.write_faults)
+  pub done : c.status ≡ 0 → (c.after.read_faults ≡ c.before.read_faults) × (c.after.write_faults ≡ c.before.write_faults) × (c.sink_faults_after ≡ c.sink_faults)
   pub no_reads : ((name : List ℕ) (limit : ℕ) → Asks c.before plan name limit → ⊥) → c.after.read_faults ≡ c.before.read_faults
   pub no_writes : ((q : List ℕ) → MayMake plan c q → ⊥) → c.after.write_faults ≡ c.before.write_faults
   -- only the file that the plan makes may have changed, and no count falls
@@ -95,4 +95,4 @@ pub record Keeps (plan : Reading Done) (c : Call) : Type 0 where
   pub disclosure : c.after.discloses ≡ c.before.discloses
   pub reads_later : c.before.read_faults ≤ c.after.read_faults
   pub writes_later : c.before.write_faults ≤ c.after.write_faults
-  pub puts_later : c.puts ≤ c.puts_after
+  pub sink_faults_later : c.sink_faults ≤ c.sink_faults_after

@@ -3,7 +3,7 @@ use Rattle.std.specs.Prelude.{◌≡◌, ◌≢◌, ℕ, ◌<◌, ◌≤◌, ◌
 use Rattle.bench_shelf.specs.Held.{Held, Stays}
 use Rattle.soc_words.specs.Causes.{Rose}
 use Rattle.bench_plan.specs.Answers.{long_text, unread_text}
-use Rattle.bench_plan.specs.Readings.{Fault, Reading, gives, refuses, asks}
+use Rattle.bench_plan.specs.Readings.{Refusal, Reading, gives, refuses, asks}
 use Rattle.bench_plan.specs.declared.stop.Stop.{Stop}
 use Rattle.bench_plan.specs.declared.stop.Stop.TheVariants.{Refused, Memory}
 
@@ -12,15 +12,15 @@ abbrev pub IsRead : Held → List ℕ → ℕ → List ℕ → Type 0
 IsRead h name limit bytes = (length bytes ≤ limit) × (IsTrue h.discloses → h.file name ≡ Some bytes)
 
 -- over the files as they were read the reading comes to this
-abbrev pub Comes : {A : Type 0} → Held → Reading A → Result A Fault → Type 0
+abbrev pub Comes : {A : Type 0} → Held → Reading A → Result A Refusal → Type 0
 Comes h (gives a) r = r ≡ Ok a
-Comes h (refuses fault) r = r ≡ Err fault
+Comes h (refuses refusal) r = r ≡ Err refusal
 Comes h (asks name limit next) r = (bytes : List ℕ) × IsRead h name limit bytes × Comes h (next bytes) r
 
 -- the reading asks for this file, and refuses none before it
 abbrev pub Asks : {A : Type 0} → Held → Reading A → List ℕ → ℕ → Type 0
 Asks h (gives a) name limit = ⊥
-Asks h (refuses fault) name limit = ⊥
+Asks h (refuses refusal) name limit = ⊥
 Asks h (asks n l next) name limit = ((name ≡ n) × (limit ≡ l)) ⊎ ((bytes : List ℕ) × IsRead h n l bytes × Asks h (next bytes) name limit)
 
 -- why a file isn't read: it isn't there, or a read failed
@@ -46,8 +46,8 @@ pub record Misses {A : Type 0} (old new : Held) (p : Reading A) (text : List ℕ
 -- what a reading comes to, and why. Memory may be wanted anywhere; where no file is asked for, no read fails
 abbrev pub Results : {A : Type 0} → Held → Held → Reading A → Result A Stop → Type 0
 Results old new p (Ok a) = (new.read_faults ≡ old.read_faults) × Comes old p (Ok a)
-Results old new p (Err (Refused fault)) =
-    ((new.read_faults ≡ old.read_faults) × (fault.status ≢ 3) × Comes old p (Err fault)) ⊎ ((fault.status ≡ 3) × Misses old new p fault.text)
+Results old new p (Err (Refused refusal)) =
+    ((new.read_faults ≡ old.read_faults) × (refusal.status ≢ 3) × Comes old p (Err refusal)) ⊎ ((refusal.status ≡ 3) × Misses old new p refusal.text)
 Results old new p (Err Memory) = (new.read_faults ≡ old.read_faults) ⊎ ((name : List ℕ) × (limit : ℕ) × Asks old p name limit)
 
 -- what the reading asks for was read between two moments of a shelf, and no file was changed
@@ -65,12 +65,12 @@ mapped f (Ok a) = Ok (f a)
 mapped f (Err stop) = Err stop
 
 -- what judging gives: what is meant, or memory was wanted
-abbrev pub Judges : {A : Type 0} → Result A Fault → Result A Stop → Type 0
+abbrev pub Judges : {A : Type 0} → Result A Refusal → Result A Stop → Type 0
 Judges means (Ok a) = means ≡ Ok a
-Judges means (Err (Refused fault)) = (fault.status ≢ 3) × (means ≡ Err fault)
+Judges means (Err (Refused refusal)) = (refusal.status ≢ 3) × (means ≡ Err refusal)
 Judges means (Err Memory) = Unit {0}
 
 -- the job is refused so, or memory was wanted for the line
-abbrev pub IsRefusal : Fault → Stop → Type 0
-IsRefusal fault (Refused f) = f ≡ fault
-IsRefusal fault Memory = Unit {0}
+abbrev pub IsRefusal : Refusal → Stop → Type 0
+IsRefusal refusal (Refused f) = f ≡ refusal
+IsRefusal refusal Memory = Unit {0}

@@ -5,7 +5,7 @@ ghost use Rattle.bench_plan.specs.Steps.{IsRefusal};
 use std::alloc::{AllocError, Global};
 use std::marker::Model;
 
-/// A refusal: its status, and the line that is written first. It is seen as the fault of the definition.
+/// A refusal: its status, and the line that is written first. It is seen as the refusal of the definition.
 #[derive(Drop)]
 pub struct Refusal {
     status: u8,
@@ -14,9 +14,9 @@ pub struct Refusal {
 
 impl Model for Refusal {
     ghost use Rattle.std.specs.Prelude.{◌≢◌, ◌<◌};
-    ghost use Rattle.bench_plan.specs.Readings.{Fault};
+    ghost use Rattle.bench_plan.specs.Readings.{Refusal};
 
-    ghost Value = { Fault };
+    ghost Value = { Refusal };
 
     ghost view = { λ r. record { status = r.status; text = r.line.items } };
 

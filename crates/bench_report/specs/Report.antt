@@ -151,7 +151,7 @@ abbrev pub shown : ChipState → ℕ → Shown
 shown chip cycles = record {
   cycles = cycles;
   events = chip.events;
-  boot = boot_view;
+  boot = boot_view chip.seat;
   hart0 = hart_view chip.hub 0;
   hart1 = hart_view chip.hub 1;
   imem = chip.hub.memory.imem;

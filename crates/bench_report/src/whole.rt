@@ -1,8 +1,9 @@
 //! A run and its report. The events are written while the run goes on.
-ghost use Rattle.std.specs.Prelude.{◌≡◌, ◌+◌, ◌^◌, ◌<◌, ◌≤◌, ◌++◌, [], OnOk, length};
+ghost use Rattle.std.specs.Prelude.{◌≡◌, ◌+◌, ◌^◌, ◌<◌, ◌≤◌, ◌++◌, [], OnOk, true};
 ghost use Rattle.bench_report.specs.Report.{boot_text, cycles_text, events_text, report, shown};
 ghost use Rattle.bench_shelf.specs.Sink.{Writes};
 ghost use Rattle.chip_base.specs.Settings.{values_of};
+ghost use Rattle.chip_hub.specs.Start.{fits_in};
 ghost use Rattle.chip_hub.specs.Views.{boot_view};
 ghost use Rattle.chip_whole.specs.Chip.{after, bare, start};
 ghost use Rattle.chip_whole.specs.Next.{next_events};
@@ -72,7 +73,7 @@ fn put_head<R: Threads + Sync, O: Sink>(
 ) -> Result<(), SinkFault>
     requires first { ⟦<Chip as Standing>⟧.now chip.old ≡ 0 }
     ensures writes { ForEach ⟦<Chip as Standing>⟧.stands chip.old (λ board s. Writes O.written O.faults out.old out.new
-        (cycles_text cycles ++ events_text (next_events board s cycles) ++ boot_text boot_view) result) }
+        (cycles_text cycles ++ events_text (next_events board s cycles) ++ boot_text (boot_view (after board s cycles).seat)) result) }
     ensures state { OnOk result (IsStepped ⟦<Chip as Standing>⟧.stands chip.old cycles chip.new) }
 {
     put_line(&cycles_line(cycles), out)?;
@@ -96,23 +97,23 @@ fn report_chip<R: Threads + Sync, O: Sink>(
     put_tail(chip, out)
 }
 
-/// Runs a chip this many cycles from power-on, with the bytes of a file in IMEM, and writes its report. How the lanes are grouped
-/// doesn't change it.
-#[tactic(auto, using(bench_shelf::proofs::Writing::writes_nothing))]
+/// Runs a chip this many cycles from power-on, where core 0 begins in a boot mode with a file, which must fit, as `fits` of chip_hub
+/// tells, and writes its report. How the lanes are grouped doesn't change it.
 pub fn report_run<R: Threads + Sync, O: Sink>(
     rt: &R,
     alloc: Global,
     setup: &Setup,
+    boot: Boot,
     image: Vec<u8>,
     script: Script,
     groups: &Groups,
     cycles: u32,
     out: &mut O,
 ) -> Result<(), SinkFault>
-    requires { length image.items ≤ setup.now.imem }
-    ensures { Writes O.written O.faults out.old out.new (report (shown (after bare (start (values_of setup.now) image.items script) cycles) cycles)) result }
+    requires { fits_in boot image.items setup.now.imem ≡ true }
+    ensures { Writes O.written O.faults out.old out.new (report (shown (after bare (start (values_of setup.now) boot image.items script) cycles) cycles)) result }
 {
-    match Chip::new(alloc, setup, Boot::Raw, image, script, groups) {
+    match Chip::new(alloc, setup, boot, image, script, groups) {
         Ok(mut chip) => report_chip(rt, &mut chip, cycles, out),
         Err(_) => Err(SinkFault::Memory),
     }

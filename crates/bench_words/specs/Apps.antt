@@ -1,4 +1,4 @@
--- The words of a command, by clap's own definition of a simple command.
+-- Definition: the words of a command, by clap's own definition of a simple command.
 use Rattle.std.specs.Prelude.{true, List, [], ◌∷◌, Option, Some, None, codes, fold}
 use Rattle.clap.specs.Walk.{Row, Rule, Text}
 use Rattle.clap.specs.Simple.{App, new_rule, new_shape, with_rule}
@@ -38,6 +38,14 @@ command name positionals options = fold with_option (fold with_positional (bare 
 abbrev pub run_app : App
 run_app = command (codes "run") (codes "IMAGE" ∷ codes "CYCLES" ∷ [])
     (codes "boot" ∷ codes "chip" ∷ codes "script" ∷ codes "groups" ∷ [])
+
+-- `image PAYLOAD OUT`, with its option
+abbrev pub image_app : App
+image_app = command (codes "image") (codes "PAYLOAD" ∷ codes "OUT" ∷ []) (codes "chip" ∷ [])
+
+-- `check IMAGE`, with its option
+abbrev pub check_app : App
+check_app = command (codes "check") (codes "IMAGE" ∷ []) (codes "chip" ∷ [])
 
 -- what was found, where the words have no fault
 abbrev pub rows_without : Kinds → List Row → Option (List Row)

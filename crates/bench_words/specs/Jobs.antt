@@ -1,58 +1,116 @@
--- A definition: the job that the words of the command line give, if they give one.
-use Rattle.std.specs.Prelude.{ℕ, ◌-◌, ◌^◌, Bool, false, List, [], ◌∷◌, Option, Some, None, codes, if◌then◌else◌, option_and_then, option_map}
+-- Definition: the job that the words of the command line give, if they give one.
+use Rattle.std.specs.Prelude.{ℕ, ◌-◌, ◌^◌, List, [], ◌∷◌, Option, Some, None, codes, if◌then◌else◌, option_and_then, option_map}
 use Rattle.std.specs.Str.{bytes_eq}
 use Rattle.clap.specs.Walk.{Row, Text}
 use Rattle.clap.specs.Words.{first_of}
 use Rattle.chip_base.specs.Groups.{groups_of}
+use Rattle.chip_base.specs.declared.boot.Boot.{Boot}
+use Rattle.chip_base.specs.declared.boot.Boot.TheVariants.{Monitor, Direct, Raw}
 use Rattle.text_fields.specs.Numbers.{number_of}
-use Rattle.bench_words.specs.Apps.{rows_taken, run_app}
+use Rattle.bench_words.specs.Apps.{check_app, image_app, rows_taken, run_app}
+use Rattle.bench_words.specs.declared.job.CheckJob.{CheckJob}
+use Rattle.bench_words.specs.declared.job.ImageJob.{ImageJob}
+use Rattle.bench_words.specs.declared.job.Job.{Job as JobRead}
+use Rattle.bench_words.specs.declared.job.Job.TheVariants.{Run as RunRead, Image as ImageRead, Check as CheckRead}
 use Rattle.bench_words.specs.declared.job.RunJob.{RunJob}
 
--- a run: its file, its cycles, the files of the chip and of the script where they are named, the group of each lane
-pub record Job : Type 0 where
+-- a run: its file, its cycles, the way to start, the files of the chip and of the script where they are named, the group of each lane
+pub record Run : Type 0 where
   pub image : Text
   pub cycles : ℕ
+  pub boot : Boot
   pub chip : Option Text
   pub script : Option Text
   pub groups : List ℕ
+
+-- the making of an image: the file of its payload, the file that it is written to, the file of the chip where it is named
+pub record Making : Type 0 where
+  pub payload : Text
+  pub out : Text
+  pub chip : Option Text
+
+-- the check of an image: its file, the file of the chip where it is named
+pub record Checking : Type 0 where
+  pub image : Text
+  pub chip : Option Text
+
+pub data Job : Type 0 where
+  run : Run → Job
+  makes : Making → Job
+  checks : Checking → Job
 
 -- one to ten decimal digits of a value below 2 ^ 32
 abbrev pub cycles_of : Text → Option ℕ
 cycles_of text = number_of 10 (2 ^ 32 - 1) text
 
--- the way to start is named, and is `raw`
-abbrev pub is_raw : Option Text → Bool
-is_raw None = false
-is_raw (Some text) = bytes_eq text (codes "raw")
+-- the way to start of this name
+abbrev pub boot_named : Text → Option Boot
+boot_named text =
+    if bytes_eq text (codes "monitor") then Some Monitor
+    else (if bytes_eq text (codes "direct") then Some Direct
+    else (if bytes_eq text (codes "raw") then Some Raw else None))
+
+-- the way to start that is named, or the boot monitor
+abbrev pub boot_or_monitor : Option Text → Option Boot
+boot_or_monitor None = Some Monitor
+boot_or_monitor (Some text) = boot_named text
 
 -- the groups that are named, or one of all lanes
 abbrev pub groups_or_all : Option Text → Option (List ℕ)
 groups_or_all None = groups_of (codes "all")
 groups_or_all (Some text) = groups_of text
 
--- the job, from what was found for each argument
-unfoldable pub job_from : Option Text → Option Text → Option Text → Option Text → Option Text → Option Text → Option Job
-job_from image cycles boot chip script groups =
-    if is_raw boot then option_and_then (λ i. option_and_then (λ n. option_and_then (λ g. Some (record {
+-- the run, from what was found for each argument
+unfoldable pub run_from : Option Text → Option Text → Option Text → Option Text → Option Text → Option Text → Option Run
+run_from image cycles boot chip script groups =
+    option_and_then (λ b. option_and_then (λ i. option_and_then (λ n. option_and_then (λ g. Some (record {
       image = i;
       cycles = n;
+      boot = b;
       chip = chip;
       script = script;
       groups = g;
-    })) (groups_or_all groups)) (option_and_then cycles_of cycles)) image else None
+    })) (groups_or_all groups)) (option_and_then cycles_of cycles)) image) (boot_or_monitor boot)
 
--- the job, from all that was found
-abbrev pub run_of : List Row → Option Job
-run_of rows = job_from (first_of (codes "IMAGE") rows) (first_of (codes "CYCLES") rows) (first_of (codes "boot") rows)
+-- the run, from all that was found
+abbrev pub run_of : List Row → Option Run
+run_of rows = run_from (first_of (codes "IMAGE") rows) (first_of (codes "CYCLES") rows) (first_of (codes "boot") rows)
     (first_of (codes "chip") rows) (first_of (codes "script") rows) (first_of (codes "groups") rows)
 
--- the job of the words of `run`, its name among them
-abbrev pub run_job : List Text → Option Job
+-- the making of an image, from what was found for each argument
+unfoldable pub making_from : Option Text → Option Text → Option Text → Option Making
+making_from payload out chip = option_and_then (λ p. option_and_then (λ o. Some (record {
+  payload = p;
+  out = o;
+  chip = chip;
+})) out) payload
+
+abbrev pub making_of : List Row → Option Making
+making_of rows = making_from (first_of (codes "PAYLOAD") rows) (first_of (codes "OUT") rows) (first_of (codes "chip") rows)
+
+-- the check of an image, from what was found for each argument
+unfoldable pub checking_from : Option Text → Option Text → Option Checking
+checking_from image chip = option_and_then (λ i. Some (record { image = i; chip = chip })) image
+
+abbrev pub checking_of : List Row → Option Checking
+checking_of rows = checking_from (first_of (codes "IMAGE") rows) (first_of (codes "chip") rows)
+
+-- the jobs of the words of each command, its name among them
+abbrev pub run_job : List Text → Option Run
 run_job words = option_and_then run_of (rows_taken run_app words)
 
--- the job of these words, where the command's name is `run`
+abbrev pub making_job : List Text → Option Making
+making_job words = option_and_then making_of (rows_taken image_app words)
+
+abbrev pub checking_job : List Text → Option Checking
+checking_job words = option_and_then checking_of (rows_taken check_app words)
+
+-- the job of these words, by the command's name
 abbrev pub job_named : Text → List Text → Option Job
-job_named name words = if bytes_eq name (codes "run") then run_job words else None
+job_named name words =
+    if bytes_eq name (codes "run") then option_map run (run_job words)
+    else (if bytes_eq name (codes "image") then option_map makes (making_job words)
+    else (if bytes_eq name (codes "check") then option_map checks (checking_job words) else None))
 
 -- the job of the words after the program's name, the first of which names a command
 unfoldable pub job_of : List Text → Option Job
@@ -60,11 +118,23 @@ job_of [] = None
 job_of (name ∷ rest) = job_named name (name ∷ rest)
 
 -- what a job that was read stands for
-abbrev pub job_view : RunJob → Job
-job_view job = record {
+abbrev pub run_view : RunJob → Run
+run_view job = record {
   image = job.image.now;
   cycles = job.cycles;
+  boot = job.boot;
   chip = option_map (λ s. s.now) job.chip;
   script = option_map (λ s. s.now) job.script;
   groups = job.groups.of;
 }
+
+abbrev pub making_view : ImageJob → Making
+making_view job = record { payload = job.payload.now; out = job.out.now; chip = option_map (λ s. s.now) job.chip }
+
+abbrev pub checking_view : CheckJob → Checking
+checking_view job = record { image = job.image.now; chip = option_map (λ s. s.now) job.chip }
+
+abbrev pub job_view : JobRead → Job
+job_view (RunRead job) = run (run_view job)
+job_view (ImageRead job) = makes (making_view job)
+job_view (CheckRead job) = checks (checking_view job)

@@ -1,7 +1,7 @@
 //! Commands, as `clap` reads their words.
 ghost use Rattle.std.specs.Prelude.{◌≡◌, [], IfOk, Some, None, fold, map, option_map, string_bytes, true};
 ghost use Rattle.clap.specs.Words.{app_of, found_of, first_of, is_simple_and_free, rows_of};
-ghost use Rattle.bench_words.specs.Apps.{bare, rows_taken, run_app, with_option, with_positional};
+ghost use Rattle.bench_words.specs.Apps.{bare, check_app, image_app, rows_taken, run_app, with_option, with_positional};
 
 use chip_base::NoMemory;
 use clap::error::ErrorKind;
@@ -94,6 +94,37 @@ pub fn run_command<'a>(alloc: Global) -> Result<Command<'a>, AllocError>
         "run",
         RUN_POSITIONALS.as_slice(),
         RUN_OPTIONS.as_slice(),
+    )
+}
+
+static IMAGE_POSITIONALS: [&str; 2] = ["PAYLOAD", "OUT"];
+
+static CHECK_POSITIONALS: [&str; 1] = ["IMAGE"];
+
+/// The options of the commands that make and check images.
+static IMAGE_OPTIONS: [&str; 1] = ["chip"];
+
+/// The command `image`.
+pub fn image_command<'a>(alloc: Global) -> Result<Command<'a>, AllocError>
+    ensures { IfOk result (λ c. app_of c ≡ image_app) }
+{
+    command_of(
+        alloc,
+        "image",
+        IMAGE_POSITIONALS.as_slice(),
+        IMAGE_OPTIONS.as_slice(),
+    )
+}
+
+/// The command `check`.
+pub fn check_command<'a>(alloc: Global) -> Result<Command<'a>, AllocError>
+    ensures { IfOk result (λ c. app_of c ≡ check_app) }
+{
+    command_of(
+        alloc,
+        "check",
+        CHECK_POSITIONALS.as_slice(),
+        IMAGE_OPTIONS.as_slice(),
     )
 }
 

@@ -6,4 +6,4 @@ mod job;
 #[cfg(test)]
 mod tests;
 
-pub use job::{RunJob, read_job};
+pub use job::{CheckJob, ImageJob, Job, RunJob, read_job};

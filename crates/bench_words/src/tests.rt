@@ -1,6 +1,7 @@
 //! Words as they are typed.
 
-use crate::{RunJob, read_job};
+use crate::{Job, RunJob, read_job};
+use chip_base::Boot;
 use std::alloc::{AllocError, Global};
 
 /// The words of a line, one blank between each two.
@@ -12,11 +13,12 @@ fn words_of(alloc: Global, line: &str) -> Result<Vec<String>, AllocError> {
     Ok(words)
 }
 
-/// What a job is to hold.
+/// What a run is to hold.
 #[derive(Clone, Copy)]
 struct Wanted<'a> {
     image: &'a str,
     cycles: u32,
+    boot: Boot,
     chip: Option<&'a str>,
     script: Option<&'a str>,
     groups: [u8; 8],
@@ -27,6 +29,7 @@ fn plain<'a>(image: &'a str, cycles: u32) -> Wanted<'a> {
     Wanted {
         image,
         cycles,
+        boot: Boot::Raw,
         chip: None,
         script: None,
         groups: [0; 8],
@@ -36,19 +39,44 @@ fn plain<'a>(image: &'a str, cycles: u32) -> Wanted<'a> {
 fn is_wanted(job: &RunJob<'_>, wanted: &Wanted<'_>) -> bool {
     let image = job.image == wanted.image;
     let cycles = job.cycles == wanted.cycles;
+    let boot = job.boot == wanted.boot;
     let chip = job.chip == wanted.chip;
     let script = job.script == wanted.script;
     let groups = job.groups.of == wanted.groups;
-    image && cycles && chip && script && groups
+    image && cycles && boot && chip && script && groups
 }
 
-/// Whether the words of a line give this job.
+/// Whether the words of a line give this run.
 fn gives(alloc: Global, line: &str, wanted: &Wanted<'_>) -> bool {
     let Ok(words) = words_of(alloc, line) else {
         return false;
     };
     match read_job(alloc, &words) {
-        Ok(Some(job)) => is_wanted(&job, wanted),
+        Ok(Some(Job::Run(job))) => is_wanted(&job, wanted),
+        _ => false,
+    }
+}
+
+/// Whether the words of a line give the making of an image of this payload in this file.
+fn makes(alloc: Global, line: &str, payload: &str, out: &str, chip: Option<&str>) -> bool {
+    let Ok(words) = words_of(alloc, line) else {
+        return false;
+    };
+    match read_job(alloc, &words) {
+        Ok(Some(Job::Image(job))) => {
+            job.payload == payload && job.out == out && job.chip == chip
+        }
+        _ => false,
+    }
+}
+
+/// Whether the words of a line give the check of this image.
+fn checks(alloc: Global, line: &str, image: &str, chip: Option<&str>) -> bool {
+    let Ok(words) = words_of(alloc, line) else {
+        return false;
+    };
+    match read_job(alloc, &words) {
+        Ok(Some(Job::Check(job))) => job.image == image && job.chip == chip,
         _ => false,
     }
 }
@@ -85,6 +113,18 @@ fn reads_jobs(rt: HostRuntime) {
         ("run --boot raw -- --a 10", "--a", 10),
     ] {
         assert!(&rt; gives(rt.alloc(), line, &plain(image, cycles)), "{line}");
+    }
+    for (line, boot) in [
+        ("run a.bin 10", Boot::Monitor),
+        ("run a.bin 10 --boot monitor", Boot::Monitor),
+        ("run --boot=direct a.bin 10", Boot::Direct),
+        ("run a.bin 10 --boot raw", Boot::Raw),
+    ] {
+        let wanted = Wanted {
+            boot,
+            ..plain("a.bin", 10)
+        };
+        assert!(&rt; gives(rt.alloc(), line, &wanted), "{line}");
     }
     let none: Option<&str> = None;
     for (line, chip, script, groups) in [
@@ -128,6 +168,7 @@ fn reads_jobs(rt: HostRuntime) {
         let wanted = Wanted {
             image: "a.bin",
             cycles: 10,
+            boot: Boot::Raw,
             chip,
             script,
             groups,
@@ -137,18 +178,41 @@ fn reads_jobs(rt: HostRuntime) {
 }
 
 #[test]
+fn reads_the_jobs_of_images(rt: HostRuntime) {
+    for (line, payload, out, chip) in [
+        ("image p.bin p.img", "p.bin", "p.img", None),
+        ("image p.bin p.bin", "p.bin", "p.bin", None),
+        ("image --chip=c.toml - ", "-", "", Some("c.toml")),
+        (
+            "image p.bin --chip c.toml -- -o",
+            "p.bin",
+            "-o",
+            Some("c.toml"),
+        ),
+    ] {
+        assert!(&rt; makes(rt.alloc(), line, payload, out, chip), "{line}");
+    }
+    for (line, image, chip) in [
+        ("check p.img", "p.img", None),
+        ("check --chip c.toml p.img", "p.img", Some("c.toml")),
+        ("check p.img --chip=", "p.img", Some("")),
+    ] {
+        assert!(&rt; checks(rt.alloc(), line, image, chip), "{line}");
+    }
+}
+
+#[test]
 fn refuses_other_words(rt: HostRuntime) {
     for line in [
         "",
         "run",
         "run a.bin --boot raw",
-        "run a.bin 10",
         "run a.bin 10 20 --boot raw",
         "run a.bin 10 --boot",
         "run a.bin 10 --boot=",
         "run a.bin 10 --boot ",
-        "run a.bin 10 --boot monitor",
-        "run a.bin 10 --boot direct",
+        "run a.bin 10 --boot Monitor",
+        "run a.bin 10 --boot mon",
         "run a.bin 10 --boot RAW",
         "run a.bin 10 --bo raw",
         "run a.bin 10 --boot raw --boot raw",
@@ -178,8 +242,18 @@ fn refuses_other_words(rt: HostRuntime) {
         "run a.bin 4294967296 --boot raw",
         "help",
         "--boot raw run a.bin 10",
-        "image a.bin b.bin",
-        "check a.bin",
+        "image",
+        "image a.bin",
+        "image a.bin b.bin c.bin",
+        "image a.bin b.bin --boot raw",
+        "image a.bin b.bin --chip",
+        "image a.bin b.bin --chip x --chip x",
+        "image a.bin -b",
+        "check",
+        "check a.bin b.bin",
+        "check a.bin --script x",
+        "check a.bin --help",
+        "Check a.bin",
         "debug a.bin 10 c.txt --boot raw",
         "demo 1",
     ] {

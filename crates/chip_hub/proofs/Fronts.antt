@@ -27,9 +27,10 @@ use Rattle.unit_fronts.specs.SpiFront.{spi_kind}
 use Rattle.unit_fronts.specs.UartFront.{uart_kind}
 use Rattle.unit_fronts.proofs.Counts.{loads, spends}
 use Rattle.chip_base.specs.UnitTable.{link_place, unit_numbered}
-use Rattle.chip_hub.specs.Access.{accessed, accessed_by, in_clint, in_device, in_dma, in_mailbox, in_memory, in_numbered, in_region, in_sysinfo, memory_stored}
-use Rattle.chip_hub.specs.Cycle.{heard, heard_by_gpio, heard_by_pwm, hub_cycle, served, served0, served1, served2, served_to, timed, turn0, turn1, wants_of}
-use Rattle.chip_hub.specs.State.{Fronts, HubState, HubStep}
+use Rattle.chip_hub.specs.Access.{Accessed, accessed, accessed_by, in_clint, in_device, in_dma, in_mailbox, in_memory, in_numbered, in_region, in_sysinfo, memory_stored}
+use Rattle.chip_hub.specs.Cycle.{heard, heard_by_gpio, heard_by_pwm, hub_cycle, seat_after, served, served0, served1, served2, served_to, timed, turn0, turn1, wanted0, wants_of}
+use Rattle.chip_hub.specs.Seat.{Seat}
+use Rattle.chip_hub.specs.State.{Fronts, HubState}
 use Rattle.chip_hub.specs.Units.{at_gpio, at_pwm, at_serial, fronts_after, messages_in, only_to, silent, unit_down}
 
 -- a relation between the fronts before an access, the fronts after it and the messages that go down holds of every access
@@ -94,37 +95,40 @@ every_access : (Q : Fronts → Fronts → List (Option Down) → Type 0) → Hol
 unfolding accessed
 every_access Q h s r = found_access Q h s r (admitted r _ _)
 
-core0_access : (Q : Fronts → Fronts → List (Option Down) → Type 0) → HoldsOfAccesses Q → (s : HubState) (wanted : Option Request)
-    → Q s.fronts (served0 s wanted).hub.fronts (served0 s wanted).downs
-core0_access Q h s None = h.quiet s.fronts
-core0_access Q h s (Some request) = every_access Q h s request
+core0_access : (Q : Fronts → Fronts → List (Option Down) → Type 0) → HoldsOfAccesses Q → (s : HubState) (seat : Seat) (wanted : Option Request)
+    → Q s.fronts (served0 s seat wanted).hub.fronts (served0 s seat wanted).downs
+core0_access Q h s seat None = h.quiet s.fronts
+core0_access Q h s seat (Some request) = every_access Q h s request
 
-core1_access : (Q : Fronts → Fronts → List (Option Down) → Type 0) → HoldsOfAccesses Q → (s : HubState) (wanted : Option Request)
-    → Q s.fronts (served1 s wanted).hub.fronts (served1 s wanted).downs
-core1_access Q h s None = h.quiet s.fronts
-core1_access Q h s (Some request) = every_access Q h s request
+core1_access : (Q : Fronts → Fronts → List (Option Down) → Type 0) → HoldsOfAccesses Q → (s : HubState) (seat : Seat) (wanted : Option Request)
+    → Q s.fronts (served1 s seat wanted).hub.fronts (served1 s seat wanted).downs
+core1_access Q h s seat None = h.quiet s.fronts
+core1_access Q h s seat (Some request) = every_access Q h s request
 
-dma_served : (Q : Fronts → Fronts → List (Option Down) → Type 0) → HoldsOfAccesses Q → (s : HubState) (wanted : Option Request)
-    → Q s.fronts (served2 s wanted).hub.fronts (served2 s wanted).downs
-dma_served Q h s None = h.quiet s.fronts
-dma_served Q h s (Some request) = every_access Q h s request
+dma_served : (Q : Fronts → Fronts → List (Option Down) → Type 0) → HoldsOfAccesses Q → (s : HubState) (seat : Seat) (wanted : Option Request)
+    → Q s.fronts (served2 s seat wanted).hub.fronts (served2 s seat wanted).downs
+dma_served Q h s seat None = h.quiet s.fronts
+dma_served Q h s seat (Some request) = every_access Q h s request
 
-grant : (Q : Fronts → Fronts → List (Option Down) → Type 0) → HoldsOfAccesses Q → (s : HubState) (master : Option Master)
-    → Q s.fronts (served_to s master).hub.fronts (served_to s master).downs
-grant Q h s None = h.quiet s.fronts
-grant Q h s (Some Core0) = core0_access Q h s (wanted_in s.core0.phase)
-grant Q h s (Some Core1) = core1_access Q h s (wanted_in s.core1.phase)
-grant Q h s (Some Copier) = dma_served Q h s (dma_wanted s.dma)
+grant : (Q : Fronts → Fronts → List (Option Down) → Type 0) → HoldsOfAccesses Q → (s : HubState) (seat : Seat) (master : Option Master)
+    → Q s.fronts (served_to s seat master).hub.fronts (served_to s seat master).downs
+grant Q h s seat None = h.quiet s.fronts
+grant Q h s seat (Some Core0) = core0_access Q h s seat (wanted0 seat s.core0.phase)
+grant Q h s seat (Some Core1) = core1_access Q h s seat (wanted_in s.core1.phase)
+grant Q h s seat (Some Copier) = dma_served Q h s seat (dma_wanted s.dma)
 
-served_fronts : (Q : Fronts → Fronts → List (Option Down) → Type 0) → HoldsOfAccesses Q → (s : HubState) (wants : ℕ)
-    → Q s.fronts (served s wants).hub.fronts (served s wants).downs
-served_fronts Q h s wants = grant Q h _ (granted s.arbiter wants)
+served_fronts : (Q : Fronts → Fronts → List (Option Down) → Type 0) → HoldsOfAccesses Q → (s : HubState) (seat : Seat) (wants : ℕ)
+    → Q s.fronts (served s seat wants).hub.fronts (served s seat wants).downs
+served_fronts Q h s seat wants = grant Q h _ seat (granted s.arbiter wants)
 
 -- after the arrivals, a cycle makes one access at most
-pub cycle_fronts : (Q : Fronts → Fronts → List (Option Down) → Type 0) → HoldsOfAccesses Q → (s : HubState) (now : ℕ) (ups : List (Option Up))
-    → Q (heard s ups).fronts (hub_cycle s now ups).hub.fronts (hub_cycle s now ups).downs
+pub cycle_fronts : (Q : Fronts → Fronts → List (Option Down) → Type 0) → HoldsOfAccesses Q → (s : HubState) (seat : Seat) (now : ℕ) (ups : List (Option Up))
+    → Q (heard s ups).fronts (hub_cycle s seat now ups).hub.fronts (hub_cycle s seat now ups).downs
 unfolding hub_cycle
-cycle_fronts Q h s now ups = served_fronts Q h (turn1 (turn0 (timed (heard s ups)) now) now) (wants_of (turn1 (turn0 (timed (heard s ups)) now) now))
+cycle_fronts Q h s seat now ups =
+    let after : HubState = turn1 (turn0 (timed (heard s ups)) seat now) now in
+    let then_seat : Seat = seat_after seat now s.core0.phase in
+    served_fronts Q h after then_seat (wants_of after then_seat)
 
 -- one message to a unit is the only one
 one_to : (unit : ChipUnit) (down : Option Down) → messages_in (only_to unit down) ≤ 1
@@ -143,15 +147,13 @@ one_to Slink (Some m) = omega arith
 one_to Wdt None = omega arith
 one_to Wdt (Some m) = omega arith
 
-one_message : (s : HubState) (wants : ℕ) → messages_in (served s wants).downs ≤ 1
-one_message = served_fronts (λ old new downs. messages_in downs ≤ 1) (record {
-  quiet = λ f. omega arith;
-  device = λ s r unit reg. one_to unit (unit_down s.fronts r unit reg);
-})
-
--- what a grant sends down is one message at most
-pub one_sent : (s : HubState) (wants : ℕ) (step : HubStep) → step ≡ served s wants → messages_in step.downs ≤ 1
-one_sent s wants step e = subst (λ x. messages_in x.downs ≤ 1) (sym e) (one_message s wants)
+-- an access to what lies in a region sends down one message at most
+pub region_sends_one : (s : HubState) (r : Request) (region : Region) (a : Accessed) → a ≡ in_region s r region → messages_in a.downs ≤ 1
+region_sends_one s r region a e =
+    subst (λ x. messages_in x.downs ≤ 1) (sym e) (region_access (λ old new downs. messages_in downs ≤ 1) (record {
+      quiet = λ f. omega arith;
+      device = λ s r unit reg. one_to unit (unit_down s.fronts r unit reg);
+    }) s r region)
 
 -- what an access does to a front, and the message that it sends down
 pub record ServesPort (takes : ℕ → Bool) (old : SerialRegisters) (down : Option Down) (new : SerialRegisters) : Type 0 where
@@ -198,8 +200,8 @@ uart0_reached f r Slink reg = serves_nothing at_data f.uart0
 uart0_reached f r Wdt reg = serves_nothing at_data f.uart0
 
 -- what a cycle does to the front of uart0, after the arrivals
-pub serves_uart0 : (s : HubState) (now : ℕ) (ups : List (Option Up))
-    → ServesPort at_data (heard s ups).fronts.uart0 (get_or (hub_cycle s now ups).downs (link_place Uart0) None) (hub_cycle s now ups).hub.fronts.uart0
+pub serves_uart0 : (s : HubState) (seat : Seat) (now : ℕ) (ups : List (Option Up))
+    → ServesPort at_data (heard s ups).fronts.uart0 (get_or (hub_cycle s seat now ups).downs (link_place Uart0) None) (hub_cycle s seat now ups).hub.fronts.uart0
 serves_uart0 = cycle_fronts (λ old new downs. ServesPort at_data old.uart0 (get_or downs (link_place Uart0) None) new.uart0) (record {
   quiet = λ f. serves_nothing at_data f.uart0;
   device = λ s r unit reg. uart0_reached s.fronts r unit reg;
@@ -216,8 +218,8 @@ uart1_reached f r Slink reg = serves_nothing at_data f.uart1
 uart1_reached f r Wdt reg = serves_nothing at_data f.uart1
 
 -- what a cycle does to the front of uart1, after the arrivals
-pub serves_uart1 : (s : HubState) (now : ℕ) (ups : List (Option Up))
-    → ServesPort at_data (heard s ups).fronts.uart1 (get_or (hub_cycle s now ups).downs (link_place Uart1) None) (hub_cycle s now ups).hub.fronts.uart1
+pub serves_uart1 : (s : HubState) (seat : Seat) (now : ℕ) (ups : List (Option Up))
+    → ServesPort at_data (heard s ups).fronts.uart1 (get_or (hub_cycle s seat now ups).downs (link_place Uart1) None) (hub_cycle s seat now ups).hub.fronts.uart1
 serves_uart1 = cycle_fronts (λ old new downs. ServesPort at_data old.uart1 (get_or downs (link_place Uart1) None) new.uart1) (record {
   quiet = λ f. serves_nothing at_data f.uart1;
   device = λ s r unit reg. uart1_reached s.fronts r unit reg;
@@ -234,8 +236,8 @@ spi_reached f r Slink reg = serves_nothing at_either_data f.spi
 spi_reached f r Wdt reg = serves_nothing at_either_data f.spi
 
 -- what a cycle does to the front of spi, after the arrivals
-pub serves_spi : (s : HubState) (now : ℕ) (ups : List (Option Up))
-    → ServesPort at_either_data (heard s ups).fronts.spi (get_or (hub_cycle s now ups).downs (link_place Spi) None) (hub_cycle s now ups).hub.fronts.spi
+pub serves_spi : (s : HubState) (seat : Seat) (now : ℕ) (ups : List (Option Up))
+    → ServesPort at_either_data (heard s ups).fronts.spi (get_or (hub_cycle s seat now ups).downs (link_place Spi) None) (hub_cycle s seat now ups).hub.fronts.spi
 serves_spi = cycle_fronts (λ old new downs. ServesPort at_either_data old.spi (get_or downs (link_place Spi) None) new.spi) (record {
   quiet = λ f. serves_nothing at_either_data f.spi;
   device = λ s r unit reg. spi_reached s.fronts r unit reg;
@@ -288,8 +290,8 @@ gpio_reached f r Slink reg = no_answers f.gpio.owed
 gpio_reached f r Wdt reg = no_answers f.gpio.owed
 
 -- what a cycle does to the fronts of gpio and pwm, after the arrivals
-pub serves_gpio : (s : HubState) (now : ℕ) (ups : List (Option Up))
-    → ServesAnswers (heard s ups).fronts.gpio.owed (get_or (hub_cycle s now ups).downs (link_place Gpio) None) (hub_cycle s now ups).hub.fronts.gpio.owed
+pub serves_gpio : (s : HubState) (seat : Seat) (now : ℕ) (ups : List (Option Up))
+    → ServesAnswers (heard s ups).fronts.gpio.owed (get_or (hub_cycle s seat now ups).downs (link_place Gpio) None) (hub_cycle s seat now ups).hub.fronts.gpio.owed
 serves_gpio = cycle_fronts (λ old new downs. ServesAnswers old.gpio.owed (get_or downs (link_place Gpio) None) new.gpio.owed) (record {
   quiet = λ f. no_answers f.gpio.owed;
   device = λ s r unit reg. gpio_reached s.fronts r unit reg;
@@ -305,8 +307,8 @@ pwm_reached f r Pwm reg = pwm_access f.pwm r reg r.store
 pwm_reached f r Slink reg = no_answers f.pwm.owed
 pwm_reached f r Wdt reg = no_answers f.pwm.owed
 
-pub serves_pwm : (s : HubState) (now : ℕ) (ups : List (Option Up))
-    → ServesAnswers (heard s ups).fronts.pwm.owed (get_or (hub_cycle s now ups).downs (link_place Pwm) None) (hub_cycle s now ups).hub.fronts.pwm.owed
+pub serves_pwm : (s : HubState) (seat : Seat) (now : ℕ) (ups : List (Option Up))
+    → ServesAnswers (heard s ups).fronts.pwm.owed (get_or (hub_cycle s seat now ups).downs (link_place Pwm) None) (hub_cycle s seat now ups).hub.fronts.pwm.owed
 serves_pwm = cycle_fronts (λ old new downs. ServesAnswers old.pwm.owed (get_or downs (link_place Pwm) None) new.pwm.owed) (record {
   quiet = λ f. no_answers f.pwm.owed;
   device = λ s r unit reg. pwm_reached s.fronts r unit reg;

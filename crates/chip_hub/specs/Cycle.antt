@@ -1,5 +1,5 @@
 -- One cycle of the hub: a definition.
-use Rattle.std.specs.Prelude.{◌==◌, ℕ, ◌+◌, Bool, List, Option, Some, None, if◌then◌else◌, is_some, get_or}
+use Rattle.std.specs.Prelude.{◌==◌, ℕ, ◌+◌, Bool, List, Option, Some, None, Result, if◌then◌else◌, is_some, get_or}
 use Rattle.chip_base.specs.Bits.{bit_if}
 use Rattle.chip_base.specs.declared.message.Up.{Up}
 use Rattle.chip_base.specs.UnitTable.{link_place}
@@ -7,12 +7,13 @@ use Rattle.chip_base.specs.declared.chip_unit.ChipUnit.{ChipUnit}
 use Rattle.chip_base.specs.declared.chip_unit.ChipUnit.TheVariants.{Uart0, Uart1, Spi, Gpio, Pwm}
 use Rattle.core_pair.specs.Access.{core_granted}
 use Rattle.core_pair.specs.Clint.{clint_ticked}
-use Rattle.core_pair.specs.Core.{CoreState, started, wanted_in}
+use Rattle.core_pair.specs.Core.{CoreState, reset_core, started, wanted_in}
 use Rattle.core_pair.specs.Mailbox.{mailbox_word}
 use Rattle.core_pair.specs.Turn.{turned}
 use Rattle.core_pair.specs.declared.phase.Phase.{Phase}
-use Rattle.core_pair.specs.declared.phase.Phase.TheVariants.{Parked}
+use Rattle.core_pair.specs.declared.phase.Phase.TheVariants.{Monitor, Parked}
 use Rattle.soc_bus.specs.Rotation.{granted, after_grant}
+use Rattle.soc_bus.specs.declared.access.BusFault.{BusFault}
 use Rattle.soc_bus.specs.declared.access.Request.{Request}
 use Rattle.soc_bus.specs.declared.arbiter.Master.{Master}
 use Rattle.soc_bus.specs.declared.arbiter.Master.TheVariants.{Core0, Core1, Dma}
@@ -22,6 +23,7 @@ use Rattle.unit_fronts.specs.SerialRegisters.{SerialRegisters, serial_arrived}
 use Rattle.unit_fronts.specs.PwmFront.{PwmRegisters, pwm_arrived}
 use Rattle.chip_hub.specs.Access.{Accessed, accessed}
 use Rattle.chip_hub.specs.Lines.{mip_of}
+use Rattle.chip_hub.specs.Seat.{Seat, hands_over, reply_in, seat_answered, seat_turned, standing}
 use Rattle.chip_hub.specs.State.{HubState, HubStep}
 use Rattle.chip_hub.specs.Units.{silent}
 
@@ -59,10 +61,18 @@ heard s ups = record s {
 abbrev pub timed : HubState → HubState
 timed s = record s { clint = clint_ticked s.clint }
 
--- 3. core 0's turn
+-- 3. core 0's turn, or the monitor's, which stands in core 0's place as long as core 0 is in the phase Monitor: where it hands over, core 0 is as at reset
 
-abbrev pub turn0 : HubState → ℕ → HubState
-turn0 s now = record s { core0 = (turned s.core0 now (mip_of s 0) s.memory).after }
+abbrev pub turned0 : HubState → Seat → ℕ → Phase → CoreState
+turned0 s seat now Monitor = if hands_over seat then reset_core 0 else s.core0
+turned0 s seat now _ = (turned s.core0 now (mip_of s 0) s.memory).after
+
+abbrev pub turn0 : HubState → Seat → ℕ → HubState
+turn0 s seat now = record s { core0 = turned0 s seat now s.core0.phase }
+
+abbrev pub seat_after : Seat → ℕ → Phase → Seat
+seat_after seat now Monitor = seat_turned seat now
+seat_after seat now _ = seat
 
 -- 4. core 1's turn: while it is parked its software interrupt starts it, with pc and stack pointer from the mailbox
 
@@ -76,52 +86,70 @@ turned1 s now _ = (turned s.core1 now (mip_of s 1) s.memory).after
 abbrev pub turn1 : HubState → ℕ → HubState
 turn1 s now = record s { core1 = turned1 s now s.core1.phase }
 
--- 5. who wants the bus: bit 0 is core 0, bit 1 core 1, bit 2 the DMA
+-- 5. who wants the bus: bit 0 is core 0 or the monitor, bit 1 core 1, bit 2 the DMA
 
-abbrev pub wants_of : HubState → ℕ
-wants_of s = bit_if 0 (is_some (wanted_in s.core0.phase)) + bit_if 1 (is_some (wanted_in s.core1.phase)) + bit_if 2 (is_some (dma_wanted s.dma))
+abbrev pub wanted0 : Seat → Phase → Option Request
+wanted0 seat Monitor = standing seat
+wanted0 seat phase = wanted_in phase
+
+abbrev pub wants_of : HubState → Seat → ℕ
+wants_of s seat =
+    bit_if 0 (is_some (wanted0 seat s.core0.phase)) + bit_if 1 (is_some (wanted_in s.core1.phase)) + bit_if 2 (is_some (dma_wanted s.dma))
 
 -- 6. one of them is granted its access, and is given the answer
 
-abbrev pub nobody_served : HubState → HubStep
-nobody_served s = record { hub = s; downs = silent }
+abbrev pub nobody_served : HubState → Seat → HubStep
+nobody_served s seat = record { hub = s; seat = seat; downs = silent }
 
-abbrev pub answered0 : Accessed → HubStep
-answered0 a = record { hub = record a.hub { core0 = core_granted a.hub.core0 a.answer }; downs = a.downs }
+abbrev pub core0_answered : CoreState → Result ℕ BusFault → Phase → CoreState
+core0_answered core answer Monitor = core
+core0_answered core answer _ = core_granted core answer
 
-abbrev pub answered1 : Accessed → HubStep
-answered1 a = record { hub = record a.hub { core1 = core_granted a.hub.core1 a.answer }; downs = a.downs }
+abbrev pub seat_granted : Seat → Result ℕ BusFault → Phase → Seat
+seat_granted seat answer Monitor = seat_answered seat (reply_in answer)
+seat_granted seat answer _ = seat
 
-abbrev pub answered2 : Accessed → HubStep
-answered2 a = record { hub = record a.hub { dma = dma_granted a.hub.dma a.answer }; downs = a.downs }
+abbrev pub answered0 : Accessed → Seat → Phase → HubStep
+answered0 a seat phase = record {
+  hub = record a.hub { core0 = core0_answered a.hub.core0 a.answer phase };
+  seat = seat_granted seat a.answer phase;
+  downs = a.downs;
+}
 
-abbrev pub served0 : HubState → Option Request → HubStep
-served0 s None = nobody_served s
-served0 s (Some request) = answered0 (accessed s request)
+abbrev pub answered1 : Accessed → Seat → HubStep
+answered1 a seat = record { hub = record a.hub { core1 = core_granted a.hub.core1 a.answer }; seat = seat; downs = a.downs }
 
-abbrev pub served1 : HubState → Option Request → HubStep
-served1 s None = nobody_served s
-served1 s (Some request) = answered1 (accessed s request)
+abbrev pub answered2 : Accessed → Seat → HubStep
+answered2 a seat = record { hub = record a.hub { dma = dma_granted a.hub.dma a.answer }; seat = seat; downs = a.downs }
 
-abbrev pub served2 : HubState → Option Request → HubStep
-served2 s None = nobody_served s
-served2 s (Some request) = answered2 (accessed s request)
+abbrev pub served0 : HubState → Seat → Option Request → HubStep
+served0 s seat None = nobody_served s seat
+served0 s seat (Some request) = answered0 (accessed s request) seat s.core0.phase
 
-abbrev pub served_to : HubState → Option Master → HubStep
-served_to s None = nobody_served s
-served_to s (Some Core0) = served0 s (wanted_in s.core0.phase)
-served_to s (Some Core1) = served1 s (wanted_in s.core1.phase)
-served_to s (Some Dma) = served2 s (dma_wanted s.dma)
+abbrev pub served1 : HubState → Seat → Option Request → HubStep
+served1 s seat None = nobody_served s seat
+served1 s seat (Some request) = answered1 (accessed s request) seat
 
-abbrev pub served : HubState → ℕ → HubStep
-served s wants = served_to (record s { arbiter = after_grant s.arbiter wants }) (granted s.arbiter wants)
+abbrev pub served2 : HubState → Seat → Option Request → HubStep
+served2 s seat None = nobody_served s seat
+served2 s seat (Some request) = answered2 (accessed s request) seat
+
+abbrev pub served_to : HubState → Seat → Option Master → HubStep
+served_to s seat None = nobody_served s seat
+served_to s seat (Some Core0) = served0 s seat (wanted0 seat s.core0.phase)
+served_to s seat (Some Core1) = served1 s seat (wanted_in s.core1.phase)
+served_to s seat (Some Dma) = served2 s seat (dma_wanted s.dma)
+
+abbrev pub served : HubState → Seat → ℕ → HubStep
+served s seat wants = served_to (record s { arbiter = after_grant s.arbiter wants }) seat (granted s.arbiter wants)
 
 -- one cycle, in these six steps
-unfoldable pub hub_cycle : HubState → ℕ → List (Option Up) → HubStep
-hub_cycle s now ups =
+unfoldable pub hub_cycle : HubState → Seat → ℕ → List (Option Up) → HubStep
+hub_cycle s seat now ups =
     let with_arrivals = heard s ups in
     let at_time = timed with_arrivals in
-    let after_core0 = turn0 at_time now in
+    let after_core0 = turn0 at_time seat now in
     let after_core1 = turn1 after_core0 now in
-    let wants = wants_of after_core1 in
-    served after_core1 wants
+    let then_seat = seat_after seat now s.core0.phase in
+    let wants = wants_of after_core1 then_seat in
+    served after_core1 then_seat wants

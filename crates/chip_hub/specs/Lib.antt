@@ -1,8 +1,10 @@
 pub mod Access
 pub mod Cycle
+pub mod Kept
 pub mod Lines
 pub mod Offsets
 pub mod Parts
+pub mod Seat
 pub mod Start
 pub mod State
 pub mod Units

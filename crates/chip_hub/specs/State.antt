@@ -10,6 +10,7 @@ use Rattle.dma_unit.specs.DmaRegisters.{DmaRegisters}
 use Rattle.unit_fronts.specs.GpioFront.{GpioRegisters}
 use Rattle.unit_fronts.specs.SerialRegisters.{SerialRegisters}
 use Rattle.unit_fronts.specs.PwmFront.{PwmRegisters}
+use Rattle.chip_hub.specs.Seat.{Seat}
 
 -- the fronts of the units that are built
 pub record Fronts : Type 0 where
@@ -31,7 +32,8 @@ pub record HubState : Type 0 where
   pub mailbox : MailboxState
   pub fronts : Fronts
 
--- what a cycle gives: the state after it, and for each of the seven units the message that goes down to it
+-- what a cycle gives: the state and the seat after it, and for each of the seven units the message that goes down to it
 pub record HubStep : Type 0 where
   pub hub : HubState
+  pub seat : Seat
   pub downs : List (Option Down)

@@ -1,7 +1,9 @@
 -- What a hub shows of its memories, its harts and its boot: a definition.
 use Rattle.std.specs.Prelude.{◌==◌, ℕ, Option, Some, None, Result, Ok, Err, if◌then◌else◌}
+use Rattle.chip_base.specs.declared.boot.Boot.{Boot}
+use Rattle.chip_base.specs.declared.boot.Boot.TheVariants.{Raw, Direct, Monitor}
 use Rattle.chip_base.specs.declared.boot.BootView.{BootView}
-use Rattle.chip_base.specs.declared.boot.BootView.TheVariants.{Raw}
+use Rattle.chip_base.specs.declared.boot.BootView.TheVariants as shown
 use Rattle.chip_base.specs.declared.hart.HartView.{HartView}
 use Rattle.core_pair.specs.Core.{view_of}
 use Rattle.csr_file.specs.Table.{read_at}
@@ -9,6 +11,7 @@ use Rattle.soc_bus.specs.Memory.{load_of}
 use Rattle.soc_bus.specs.declared.access.BusFault.{BusFault}
 use Rattle.soc_bus.specs.declared.access.Width.TheVariants.{Word}
 use Rattle.chip_hub.specs.Lines.{mip_of}
+use Rattle.chip_hub.specs.Seat.{Seat}
 use Rattle.chip_hub.specs.State.{HubState}
 
 abbrev pub loaded_word : Result ℕ BusFault → Option ℕ
@@ -27,6 +30,15 @@ hart_view s hart = if hart == 0 then view_of s.core0 else view_of s.core1
 abbrev pub csr_at : HubState → ℕ → ℕ → Option ℕ
 csr_at s hart number = if hart == 0 then read_at s.core0.csrs number (mip_of s 0) else read_at s.core1.csrs number (mip_of s 1)
 
--- core 0 began with the raw bytes of the file
-abbrev pub boot_view : BootView
-boot_view = Raw
+-- how core 0 began since the last reset: the monitor hands over in some cycle, or is still there
+abbrev pub monitor_view : Option ℕ → BootView
+monitor_view None = shown.Monitor
+monitor_view (Some cycle) = shown.Handed cycle
+
+abbrev pub view_by : Boot → Option ℕ → BootView
+view_by Raw handed = shown.Raw
+view_by Direct handed = shown.Direct
+view_by Monitor handed = monitor_view handed
+
+abbrev pub boot_view : Seat → BootView
+boot_view seat = view_by seat.boot seat.handed

@@ -7,9 +7,9 @@ ghost use Rattle.soc_bus.specs.Map.{admitted};
 ghost use Rattle.chip_hub.specs.Offsets.{fits_at, numbered_has};
 ghost use Rattle.chip_hub.specs.Access.{accessed, in_clint, in_device, in_dma, in_mailbox, in_memory, in_numbered, in_region, in_sysinfo, open_bit, open_word, sysinfo_word};
 ghost use Rattle.chip_hub.specs.Parts.{offset_in};
-ghost use Rattle.chip_hub.specs.Units.{only_to, silent};
+ghost use Rattle.chip_hub.specs.Units.{messages_in, only_to, silent};
 
-use crate::hub::Hub;
+use crate::complex::CoreComplex;
 use crate::parts::{offset_in, part_of_word};
 use crate::units::{AtFront, access_gpio, access_pwm, access_spi, access_uart};
 use chip_base::bits::bit_if;
@@ -82,7 +82,7 @@ fn open_bit(unit: ChipUnit, is_open: bool) -> u32
     bit_if(u32::from(unit.number()), is_open)
 }
 
-impl Hub {
+impl CoreComplex {
     fn access_memory(&mut self, request: &Request) -> Access
         ensures step { record { hub = self.new; answer = result.answer; downs = result.downs } ≡ in_memory self.old request.now request.now.store }
         ensures dma { self.new.dma ≡ self.old.dma }
@@ -226,6 +226,7 @@ impl Hub {
     #[tactic(auto, using(crate::proofs::Offsets::admitted_fits), unfolding(crate::specs::Access::accessed))]
     pub(crate) fn access(&mut self, request: &Request) -> Access
         ensures step { record { hub = self.new; answer = result.answer; downs = result.downs } ≡ accessed self.old request.now }
+        ensures messages { messages_in result.downs ≤ 1 }
         ensures dma { is_busy self.old.dma.state ≡ true → self.new.dma ≡ self.old.dma }
     {
         match admit(request, self.memory.imem_size(), self.memory.dmem_size()) {

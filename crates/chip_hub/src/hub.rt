@@ -1,43 +1,20 @@
 //! The hub.
 
-use core_pair::{Clint, Core, Mailbox};
-use dma_unit::Dma;
-use soc_bus::{Arbiter, Memory};
+use crate::complex::CoreComplex;
+use crate::seat::Seat;
 use std::marker::Model;
-use unit_fronts::{GpioFront, PwmFront, SpiFront, UartFront};
 
-/// Two cores, the DMA, the memories, the bus and the fronts of the units.
+/// The core complex, and core 0's seat in it. In contracts it is seen as the state of a hub and what the code keeps of the seat.
 #[derive(Drop)]
 pub struct Hub {
-    pub(crate) clock: u32,
-    pub(crate) core0: Core,
-    pub(crate) core1: Core,
-    pub(crate) memory: Memory,
-    pub(crate) arbiter: Arbiter,
-    pub(crate) dma: Dma,
-    pub(crate) clint: Clint,
-    pub(crate) mailbox: Mailbox,
-    pub(crate) uart0: UartFront,
-    pub(crate) uart1: UartFront,
-    pub(crate) spi: SpiFront,
-    pub(crate) gpio: GpioFront,
-    pub(crate) pwm: PwmFront,
+    pub(crate) complex: CoreComplex,
+    pub(crate) seat: Seat,
 }
 
 impl Model for Hub {
-    ghost use Rattle.chip_hub.specs.State.{HubState};
+    ghost use Rattle.chip_hub.specs.Kept.{HubKept};
 
-    ghost Value = { HubState };
+    ghost Value = { HubKept };
 
-    ghost view = { λ h. record {
-      clock = h.clock;
-      core0 = h.core0;
-      core1 = h.core1;
-      memory = h.memory;
-      arbiter = h.arbiter;
-      dma = h.dma;
-      clint = h.clint;
-      mailbox = h.mailbox;
-      fronts = record { uart0 = h.uart0; uart1 = h.uart1; spi = h.spi; gpio = h.gpio; pwm = h.pwm };
-    } };
+    ghost view = { λ h. record { hub = h.complex; seat = h.seat } };
 }

@@ -1,43 +1,73 @@
 //! The hub at power-on.
-ghost use Rattle.std.specs.Prelude.{◌≡◌, ◌≤◌, length, nat_le, IfOk};
+ghost use Rattle.std.specs.Prelude.{◌≡◌, ◌≤◌, ◌<◌, ◌^◌, length, true, IfOk};
 ghost use Rattle.chip_base.specs.Settings.{values_of};
-ghost use Rattle.chip_base.specs.declared.boot.Boot.TheVariants.{Raw};
-ghost use Rattle.chip_hub.specs.Start.{hub_start};
+ghost use Rattle.chip_hub.specs.Kept.{SeatStands};
+ghost use Rattle.chip_hub.specs.Start.{first_bytes, first_core, fits_in, hub_start, seat_start};
 
+use crate::complex::CoreComplex;
 use crate::hub::Hub;
+use crate::seat::Seat;
 use chip_base::{Boot, NoMemory, Setup};
 use core_pair::{Clint, Core, Mailbox};
 use dma_unit::Dma;
+use image_tool::check;
 use soc_bus::{Arbiter, Memory};
 use std::alloc::Global;
 use unit_fronts::{GpioFront, PwmFront, SpiFront, UartFront};
 
-/// Whether a file can be what core 0 begins with in the boot mode `Raw`, the only one that may be asked about: exactly where it
-/// has at most `room` bytes, the size of IMEM.
+/// The bytes of an image's header.
+const HEADER: usize = 12;
+
+/// Whether core 0 can begin with a file in a boot mode, where IMEM has `room` bytes. `Raw`: exactly where the file has at most `room`
+/// bytes. `Direct`: exactly where it is an image, as `check` tells. `Monitor`: always, since the monitor takes its image from UART0.
+/// The file must have fewer than 2^32 bytes.
 pub fn fits(boot: Boot, image: &[u8], room: u32) -> bool
-    requires { boot ≡ Raw }
-    ensures { result ≡ nat_le (length image.now) room }
+    requires { length image.now < 2 ^ 32 }
+    ensures { result ≡ fits_in boot image.now room }
 {
-    let Boot::Raw = boot else {
-        return false;
-    };
-    image.len() <= room as usize
+    match boot {
+        Boot::Raw => image.len() <= room as usize,
+        Boot::Direct => check(image, room).is_ok(),
+        Boot::Monitor => true,
+    }
 }
 
-impl Hub {
-    /// The hub at power-on, with the bytes of a file in IMEM from address 0 on. The boot mode must be `Raw`, and the file must fit
-    /// IMEM, as `fits` tells. Where memory is wanting for IMEM or DMEM there is no hub, and nothing stays taken.
+/// What stands in IMEM from address 0 on, by the bytes of a file that fits.
+fn first_bytes(boot: Boot, image: &[u8], room: u32) -> &[u8]
+    requires { fits_in boot image.now room ≡ true }
+    ensures value { result.now ≡ first_bytes boot image.now }
+    ensures short { length result.now ≤ room }
+{
+    match boot {
+        Boot::Raw => image,
+        Boot::Direct => &image[HEADER..],
+        Boot::Monitor => &[],
+    }
+}
+
+/// Core 0 at power-on, or held for the monitor.
+fn first_core(boot: Boot) -> Core
+    ensures { result ≡ first_core boot }
+{
+    let mut core = Core::new(0);
+    if let Boot::Monitor = boot {
+        core.hold();
+    }
+    core
+}
+
+impl CoreComplex {
+    /// The core complex at power-on.
     #[tactic(auto, unfolding(crate::specs::Start::hub_start))]
-    pub fn new(alloc: Global, setup: &Setup, boot: Boot, image: &[u8]) -> Result<Hub, NoMemory>
-        requires raw { boot ≡ Raw }
-        requires fits { length image.now ≤ setup.now.imem }
-        ensures { IfOk result (λ hub. hub ≡ hub_start (values_of setup.now) image.now) }
+    fn new(alloc: Global, setup: &Setup, boot: Boot, image: &[u8]) -> Result<CoreComplex, NoMemory>
+        requires { fits_in boot image.now setup.now.imem ≡ true }
+        ensures { IfOk result (λ complex. complex ≡ hub_start (values_of setup.now) boot image.now) }
     {
         let mut memory = Memory::new(alloc, setup.imem, setup.dmem)?;
-        memory.fill(image);
-        Ok(Hub {
+        memory.fill(first_bytes(boot, image, setup.imem));
+        Ok(CoreComplex {
             clock: setup.clock,
-            core0: Core::new(0),
+            core0: first_core(boot),
             core1: Core::new(1),
             memory,
             arbiter: Arbiter::new(),
@@ -49,6 +79,23 @@ impl Hub {
             spi: SpiFront::new(),
             gpio: GpioFront::new(),
             pwm: PwmFront::new(),
+        })
+    }
+}
+
+impl Hub {
+    /// The hub at power-on, where core 0 begins in a boot mode: `Raw` puts the file's bytes into IMEM from address 0 on, `Direct` the
+    /// payload of the image that the file must be, and `Monitor` begins the boot monitor in core 0's place, with IMEM all zero. The
+    /// file must fit, as `fits` tells. Where memory is wanting for IMEM or DMEM there is no hub, and nothing stays taken.
+    pub fn new(alloc: Global, setup: &Setup, boot: Boot, image: &[u8]) -> Result<Hub, NoMemory>
+        requires { fits_in boot image.now setup.now.imem ≡ true }
+        ensures hub { IfOk result (λ hub. hub.hub ≡ hub_start (values_of setup.now) boot image.now) }
+        ensures seat { IfOk result (λ hub. SeatStands hub.seat (seat_start (values_of setup.now) boot)) }
+    {
+        let complex = CoreComplex::new(alloc, setup, boot, image)?;
+        Ok(Hub {
+            complex,
+            seat: Seat::new(setup, boot),
         })
     }
 }

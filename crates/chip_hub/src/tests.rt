@@ -1,7 +1,7 @@
 //! The hub on short programs.
 
-use crate::Hub;
-use chip_base::{Boot, Down, PhaseWord, Setup, Up};
+use crate::{Hub, fits};
+use chip_base::{Boot, BootView, Down, PhaseWord, Setup, Up};
 
 /// addi x1, x0, 5; lui x2, 0x80000; sw x1, 0(x2); jal x0, 0
 const STORE_FIVE: [u8; 16] = [
@@ -154,4 +154,54 @@ fn raises_the_line_of_the_pins(rt: HostRuntime) {
     hub.cycle(5, &ups);
     assert!(&rt; hub.csr(0, 0x344) == Some(0x0010_0000));
     assert!(&rt; hub.csr(1, 0x344) == Some(0x0010_0000));
+}
+
+/// The image of the payload addi x1, x0, 5; jal x0, 0.
+const IMAGE: [u8; 20] = [
+    0xfe, 0xca, 0x88, 0x47, 0x08, 0x00, 0x00, 0x00, 0xfe, 0xfe, 0xaf, 0xff, 0x93, 0x00, 0x50, 0x00,
+    0x6f, 0x00, 0x00, 0x00,
+];
+
+#[test]
+fn begins_with_the_payload(rt: HostRuntime) {
+    let setup = Setup::standard();
+    assert!(&rt; !fits(Boot::Direct, &STORE_FIVE, setup.imem));
+    assert!(&rt; fits(Boot::Direct, &IMAGE, setup.imem));
+    let hub = Hub::new(rt.alloc(), &setup, Boot::Direct, &IMAGE);
+    let Ok(mut hub) = hub else {
+        panic!(&rt; "the hub was refused");
+    };
+    assert!(&rt; hub.boot() == BootView::Direct);
+    assert!(&rt; hub.word(0) == Some(0x0050_0093));
+    assert!(&rt; hub.word(8) == Some(0));
+    for now in 0..10 {
+        hub.cycle(now, &[None; 7]);
+    }
+    assert!(&rt; hub.hart(0).regs[1] == 5);
+}
+
+/// The monitor finds all fronts open in cycle 0, sets UART0 up in cycle 8, finds that it has room in cycle 16, and sends N in cycle 24.
+#[test]
+fn greets_in_time(rt: HostRuntime) {
+    let hub = Hub::new(rt.alloc(), &Setup::standard(), Boot::Monitor, &STORE_FIVE);
+    let Ok(mut hub) = hub else {
+        panic!(&rt; "the hub was refused");
+    };
+    assert!(&rt; hub.word(0) == Some(0));
+    for now in 0..25 {
+        let downs = hub.cycle(now, &[None; 7]);
+        let sent = match now {
+            8 => Some(Down::Set {
+                reg: 0,
+                word: 17_729,
+            }),
+            24 => Some(Down::Set { reg: 4, word: 0x4e }),
+            _ => None,
+        };
+        assert!(&rt; downs[0] == sent);
+    }
+    assert!(&rt; hub.boot() == BootView::Monitor);
+    assert!(&rt; hub.hart(0).phase == PhaseWord::Monitor);
+    assert!(&rt; hub.hart(0).retired == 0 && hub.hart(0).pc == 0);
+    assert!(&rt; hub.csr(0, 0xb00) == Some(0));
 }

@@ -1,8 +1,8 @@
 //! The chip.
-ghost use Rattle.std.specs.Prelude.{◌≡◌, ℕ, ◌<◌, ◌≤◌, ◌+◌, ◌++◌, ◌^◌, suc, [], length, List, IfOk, OnOk, IfSome, slice_range, option_to_list};
+ghost use Rattle.std.specs.Prelude.{◌≡◌, ℕ, ◌<◌, ◌≤◌, ◌+◌, ◌++◌, ◌^◌, suc, true, [], length, List, IfOk, OnOk, IfSome, slice_range, option_to_list};
 ghost use Rattle.std.specs.Int.{w32, to_le_bytes};
 ghost use Rattle.chip_base.specs.Settings.{values_of};
-ghost use Rattle.chip_base.specs.declared.boot.Boot.TheVariants.{Raw};
+ghost use Rattle.chip_hub.specs.Start.{fits_in};
 ghost use Rattle.chip_hub.specs.Views.{boot_view, csr_at, hart_view, word_at};
 ghost use Rattle.soc_bus.specs.Memory.{IsSize, held_by, place_of};
 ghost use Rattle.chip_whole.specs.Chip.{Board, ChipState, after, events_of, start, tick};
@@ -28,7 +28,7 @@ pub struct Chip {
 }
 
 impl Standing for Chip {
-    ghost stands = { λ board c s. ChipStands board (record { hub = c.hub; units = c.units.units; cycle = c.units.cycle }) s };
+    ghost stands = { λ board c s. ChipStands board (record { hub = c.hub.hub; seat = c.hub.seat; units = c.units.units; cycle = c.units.cycle }) s };
 
     ghost now = { λ c. c.units.cycle };
 
@@ -58,7 +58,8 @@ fn keep_all(events: &mut Vec<Event>, told: &[Option<Event>]) -> Result<(), NoMem
 }
 
 impl Chip {
-    /// The chip at power-on, with the bytes of a file in IMEM from address 0 on. Its lanes run together, whatever their groups.
+    /// The chip at power-on, where core 0 begins in a boot mode with the file, which must fit, as `fits` of chip_hub tells. A script's
+    /// `image` step sends the file's bytes in each boot mode. The lanes run together, whatever their groups.
     pub fn new(
         alloc: Global,
         setup: &Setup,
@@ -67,9 +68,8 @@ impl Chip {
         script: Script,
         groups: &Groups,
     ) -> Result<Chip, NoMemory>
-        requires raw { boot ≡ Raw }
-        requires fits { length image.items ≤ setup.now.imem }
-        ensures chip { IfOk result (λ chip. (board : Board) → ⟦<Chip as Standing>⟧.stands board chip (start (values_of setup.now) image.items script)) }
+        requires { fits_in boot image.items setup.now.imem ≡ true }
+        ensures chip { IfOk result (λ chip. (board : Board) → ⟦<Chip as Standing>⟧.stands board chip (start (values_of setup.now) boot image.items script)) }
         ensures now { IfOk result (λ chip. ⟦<Chip as Standing>⟧.now chip ≡ 0) }
         ensures told { IfOk result (λ chip. ⟦<Chip as Standing>⟧.told chip ≡ []) }
     {
@@ -197,9 +197,10 @@ impl Chip {
         self.units.flash_end()
     }
 
-    /// How core 0 began.
+    /// How core 0 began since the last reset: in its boot mode, or by the boot monitor's hand-over.
+    #[tactic(auto, unfolding(chip_whole::specs::Standing::ChipStands))]
     pub fn boot(&self) -> BootView
-        ensures { result ≡ boot_view }
+        ensures { (board : Board) (s : ChipState) → ⟦<Chip as Standing>⟧.stands board self.now s → result ≡ boot_view s.seat }
     {
         self.hub.boot()
     }

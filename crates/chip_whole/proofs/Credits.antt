@@ -70,7 +70,7 @@ heard_open takes p downs entries u ups new o r owed h =
       answers = omega (arith, owed, none, coming);
       behind_reset = h.behind_reset;
       behind_answer = h.behind_answer.1;
-      answered = λ e. absurd (omega (arith, e, none, coming));
+      none_behind_answer = λ e. absurd (omega (arith, e, none, coming));
     }
 
 heard_closed : (takes : ℕ → Bool) (p : SerialRegisters) (downs : List (Option Down)) (entries : ℕ) (u : Up) (ups : List (Option Up)) (new : SerialRegisters) → serial_is_open p ≡ false
@@ -87,14 +87,14 @@ heard_closed takes p downs entries u ups new c r h =
           let owes : 1 ≤ p.owed = closed_owes p c in
           let last : done_in (Some u) ≡ 1 = omega (arith, none, owes, left, done_at_most u) in
           let behind : count_on credit_in ups ≡ 0 = h.behind_answer.0 last in
-          let empty : (entries ≡ 0) × (count_on (entry_in takes) downs ≡ 0) = h.answered (omega (arith, last)) in
+          let empty : (entries ≡ 0) × (count_on (entry_in takes) downs ≡ 0) = h.none_behind_answer (omega (arith, last)) in
           omega (arith, credits, sixteen, behind, empty.0, empty.1);
       all = λ e. omega (arith, credits, sixteen);
       room = omega (arith, small);
       answers = omega (arith, coming, left);
       behind_reset = h.behind_reset;
       behind_answer = h.behind_answer.1;
-      answered = λ e. h.answered (omega (arith, e));
+      none_behind_answer = λ e. h.none_behind_answer (omega (arith, e));
     }
   where
     done_at_most : (u : Up) → done_in (Some u) ≤ 1
@@ -142,7 +142,7 @@ heard_none takes p downs entries ups h = record {
   answers = omega (arith, h.answers);
   behind_reset = h.behind_reset;
   behind_answer = h.behind_answer.1;
-  answered = λ e. h.answered (omega (arith, e));
+  none_behind_answer = λ e. h.none_behind_answer (omega (arith, e));
 }
 
 pub heard_keeps : (takes : ℕ → Bool) (p : SerialRegisters) (downs : List (Option Down)) (entries : ℕ) (up : Option Up) (ups : List (Option Up)) → HasSixteen takes p downs entries (up ∷ ups)
@@ -176,7 +176,7 @@ served_keeps takes p downs entries ups down new s h = by_open _ refl
           answers = omega (arith, owed, coming, resets, s.no_reset);
           behind_reset = behind_more reset_in (entry_in takes) downs down (inr (omega (arith, none, coming))) h.behind_reset;
           behind_answer = h.behind_answer;
-          answered = λ f. absurd (omega (arith, f, none, coming));
+          none_behind_answer = λ f. absurd (omega (arith, f, none, coming));
         }
     by_open false e =
         let nothing : entry_in takes down ≡ 0 = s.closed e in
@@ -192,7 +192,7 @@ served_keeps takes p downs entries ups down new s h = by_open _ refl
           answers = omega (arith, owed, coming, resets, s.no_reset);
           behind_reset = behind_more reset_in (entry_in takes) downs down (inl nothing) h.behind_reset;
           behind_answer = h.behind_answer;
-          answered = λ f. let empty : (entries ≡ 0) × (count_on (entry_in takes) downs ≡ 0) = h.answered f in (empty.0, omega (arith, empty.1, datas, nothing));
+          none_behind_answer = λ f. let empty : (entries ≡ 0) × (count_on (entry_in takes) downs ≡ 0) = h.none_behind_answer f in (empty.0, omega (arith, empty.1, datas, nothing));
         }
 
 -- the front closes, and its Reset is the last on the line down
@@ -212,7 +212,7 @@ closed_keeps takes p downs entries ups l h =
       answers = omega (arith, owed, coming, resets);
       behind_reset = behind_more reset_in (entry_in takes) downs (Some Reset) (inl refl) h.behind_reset;
       behind_answer = h.behind_answer;
-      answered = λ f. let empty : (entries ≡ 0) × (count_on (entry_in takes) downs ≡ 0) = h.answered f in (empty.0, omega (arith, empty.1, datas));
+      none_behind_answer = λ f. let empty : (entries ≡ 0) × (count_on (entry_in takes) downs ≡ 0) = h.none_behind_answer f in (empty.0, omega (arith, empty.1, datas));
     }
 
 -- the unit takes what arrives, which leaves the line down, and its message is the last on the line up
@@ -245,15 +245,15 @@ unit_keeps takes p down downs entries new ups up u h = by_reset (reset_or_not do
           answers = omega (arith, coming, dones, none, u.answers);
           behind_reset = h.behind_reset.1;
           behind_answer = behind_more done_in credit_in ups up (by_answer (count_on done_in ups) refl) h.behind_answer;
-          answered = λ e.
-              let empty : (entries ≡ 0) × (entry_in takes down + count_on (entry_in takes) downs ≡ 0) = h.answered (omega (arith, e, dones, none, u.answers)) in
+          none_behind_answer = λ e.
+              let empty : (entries ≡ 0) × (entry_in takes down + count_on (entry_in takes) downs ≡ 0) = h.none_behind_answer (omega (arith, e, dones, none, u.answers)) in
               (omega (arith, empty.0, empty.1, count), omega (arith, empty.1));
         }
       where
         by_answer : (n : ℕ) → count_on done_in ups ≡ n → (credit_in up ≡ 0) ⊎ (count_on done_in ups ≡ 0)
         by_answer zero e = inr e
         by_answer (suc n) e =
-            let empty : (entries ≡ 0) × (entry_in takes down + count_on (entry_in takes) downs ≡ 0) = h.answered (omega (arith, e)) in
+            let empty : (entries ≡ 0) × (entry_in takes down + count_on (entry_in takes) downs ≡ 0) = h.none_behind_answer (omega (arith, e)) in
             let count : new + credit_in up ≡ entries + entry_in takes down = u.entries none (omega (arith, empty.0, empty.1)) in
             inl (omega (arith, count, empty.0, empty.1))
     by_reset (inr one) =
@@ -268,7 +268,7 @@ unit_keeps takes p down downs entries new ups up u h = by_reset (reset_or_not do
           answers = omega (arith, coming, dones, one, u.answers);
           behind_reset = h.behind_reset.1;
           behind_answer = behind_more done_in credit_in ups up (inl (omega (arith, none))) h.behind_answer;
-          answered = λ e. (omega (arith, none), behind);
+          none_behind_answer = λ e. (omega (arith, none), behind);
         }
 
 -- a cycle of all four: each takes what arrives in it, and sends its message
@@ -308,7 +308,7 @@ start_has takes downs ups =
       answers = omega (arith, resets, dones);
       behind_reset = behind_empty reset_in (entry_in takes) downs refl;
       behind_answer = behind_empty done_in credit_in ups refl;
-      answered = λ e. absurd (omega (arith, e, dones));
+      none_behind_answer = λ e. absurd (omega (arith, e, dones));
     }
 
 -- a line keeps its length

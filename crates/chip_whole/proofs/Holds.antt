@@ -6,6 +6,7 @@ use Rattle.std.proofs.lemmas.Bool.Decides.{nat_tests}
 use Rattle.chip_base.specs.Messages.{at_data, at_either_data, credit_in, entry_in}
 use Rattle.chip_base.specs.Ranges.{is_delay}
 use Rattle.chip_base.specs.Settings.{Values, values_of}
+use Rattle.chip_base.specs.declared.boot.Boot.{Boot}
 use Rattle.chip_base.specs.declared.message.Down.{Down}
 use Rattle.chip_base.specs.declared.message.Up.{Up}
 use Rattle.chip_base.specs.declared.script.Script.{Script}
@@ -39,11 +40,11 @@ use Rattle.chip_whole.proofs.Sent.{Keeps, keeps, keeps_start, told_each, told_mo
 credits_tick : (board : Board) (c : ChipState) → CreditsHold c → CreditsHold (tick board c)
 unfolding tick
 credits_tick board c h = record {
-  uart0 = serves_after at_data waiting_in uart_cycle _ _ c.units.uart0 c.cycle _ (serves_uart0 c.hub c.cycle (arriving c.units)) (λ s. keeps_count s c.cycle) h.uart0;
-  uart1 = serves_after at_data waiting_in uart_cycle _ _ c.units.uart1 c.cycle _ (serves_uart1 c.hub c.cycle (arriving c.units)) (λ s. keeps_count s c.cycle) h.uart1;
-  spi = serves_after at_either_data queued_in spi_cycle _ _ c.units.spi c.cycle _ (serves_spi c.hub c.cycle (arriving c.units)) (λ s. counts_queue s c.cycle) h.spi;
-  gpio = awaits_after gpio_cycle _ _ _ c.units.gpio c.cycle _ (gpio_hears c.hub.fronts.gpio _) (serves_gpio c.hub c.cycle (arriving c.units)) (λ s. gpio_answers s c.cycle) h.gpio;
-  pwm = awaits_after pwm_cycle _ _ _ c.units.pwm c.cycle _ (pwm_hears c.hub.fronts.pwm _) (serves_pwm c.hub c.cycle (arriving c.units)) (λ s. pwm_answers s c.cycle) h.pwm;
+  uart0 = serves_after at_data waiting_in uart_cycle _ _ c.units.uart0 c.cycle _ (serves_uart0 c.hub c.seat c.cycle (arriving c.units)) (λ s. keeps_count s c.cycle) h.uart0;
+  uart1 = serves_after at_data waiting_in uart_cycle _ _ c.units.uart1 c.cycle _ (serves_uart1 c.hub c.seat c.cycle (arriving c.units)) (λ s. keeps_count s c.cycle) h.uart1;
+  spi = serves_after at_either_data queued_in spi_cycle _ _ c.units.spi c.cycle _ (serves_spi c.hub c.seat c.cycle (arriving c.units)) (λ s. counts_queue s c.cycle) h.spi;
+  gpio = awaits_after gpio_cycle _ _ _ c.units.gpio c.cycle _ (gpio_hears c.hub.fronts.gpio _) (serves_gpio c.hub c.seat c.cycle (arriving c.units)) (λ s. gpio_answers s c.cycle) h.gpio;
+  pwm = awaits_after pwm_cycle _ _ _ c.units.pwm c.cycle _ (pwm_hears c.hub.fronts.pwm _) (serves_pwm c.hub c.seat c.cycle (arriving c.units)) (λ s. pwm_answers s c.cycle) h.pwm;
 }
 
 delay_at : (delays : List ℕ) (place : ℕ) → list_all is_delay delays ≡ true → suc place ≤ length delays → 1 ≤ get_or delays place 0
@@ -59,9 +60,9 @@ pub record DelaysFit (v : Values) : Type 0 where
 delay_fits : (v : Values) (place : ℕ) → DelaysFit v → place < 7 → 1 ≤ delay_of v place
 delay_fits v place d l = delay_at v.delay place d.each (omega (arith, d.lanes, l))
 
-start_credits : (v : Values) (image : List ℕ) (script : Script) → DelaysFit v → CreditsHold (start v image script)
+start_credits : (v : Values) (boot : Boot) (image : List ℕ) (script : Script) → DelaysFit v → CreditsHold (start v boot image script)
 unfolding start hub_start
-start_credits v image script d = record {
+start_credits v boot image script d = record {
   uart0 = serves_start at_data waiting_in _ _ (delay_fits v 0 d (omega arith)) refl;
   uart1 = serves_start at_data waiting_in _ _ (delay_fits v 1 d (omega arith)) refl;
   spi = serves_start at_either_data queued_in _ _ (delay_fits v 2 d (omega arith)) refl;
@@ -114,9 +115,9 @@ numbers_tick board c h = record { uart0 = uart_number c.units.uart0 c.cycle 1 h.
 numbers_after : (board : Board) (c : ChipState) (n : ℕ) → NumbersStay c → NumbersStay (after board c n)
 numbers_after board c n = kept_after board NumbersStay (numbers_tick board) c n
 
-start_numbers : (v : Values) (image : List ℕ) (script : Script) → NumbersStay (start v image script)
+start_numbers : (v : Values) (boot : Boot) (image : List ℕ) (script : Script) → NumbersStay (start v boot image script)
 unfolding start
-start_numbers v image script = record { uart0 = refl; uart1 = refl }
+start_numbers v boot image script = record { uart0 = refl; uart1 = refl }
 
 -- the numbers of the units that tell of events
 abbrev built : List ℕ
@@ -141,17 +142,17 @@ events_tick board c h = record {
   events = told_all c.cycle 0 built (told_by_units board c.units c.cycle) c.events (omega arith, (omega arith, (omega arith, (omega arith, tt)))) (units_tell board c h.numbers) h.events;
 }
 
-start_events : (v : Values) (image : List ℕ) (script : Script) → EventsStand (start v image script)
+start_events : (v : Values) (boot : Boot) (image : List ℕ) (script : Script) → EventsStand (start v boot image script)
 unfolding start
-start_events v image script = record { numbers = record { uart0 = refl; uart1 = refl }; events = record { order = tt; before = tt } }
+start_events v boot image script = record { numbers = record { uart0 = refl; uart1 = refl }; events = record { order = tt; before = tt } }
 
 -- in every state that the chip reaches, its events are in order
-pub events_ordered : (board : Board) (v : Values) (image : List ℕ) (script : Script) (n : ℕ) → AreOrderedBefore n (after board (start v image script) n).events
+pub events_ordered : (board : Board) (v : Values) (boot : Boot) (image : List ℕ) (script : Script) (n : ℕ) → AreOrderedBefore n (after board (start v boot image script) n).events
 unfolding start
-events_ordered board v image script n =
-    let all : EventsStand (after board (start v image script) n) = kept_after board EventsStand (events_tick board) (start v image script) n (start_events v image script) in
-    let now : (after board (start v image script) n).cycle ≡ n = cycle_after board (start v image script) n ∙ omega arith in
-    subst (λ cycle. AreOrderedBefore cycle (after board (start v image script) n).events) now (are_past _ _ all.events)
+events_ordered board v boot image script n =
+    let all : EventsStand (after board (start v boot image script) n) = kept_after board EventsStand (events_tick board) (start v boot image script) n (start_events v boot image script) in
+    let now : (after board (start v boot image script) n).cycle ≡ n = cycle_after board (start v boot image script) n ∙ omega arith in
+    subst (λ cycle. AreOrderedBefore cycle (after board (start v boot image script) n).events) now (are_past _ _ all.events)
 
 -- bytes
 
@@ -189,26 +190,26 @@ bytes_after : (board : Board) (c : ChipState) (n : ℕ) → CreditsHold c → Nu
 bytes_after board c zero h m k = k
 bytes_after board c (suc n) h m k = kept_next board c n (credits_after board c n h) (numbers_after board c n m) (bytes_after board c n h m k)
 
-start_bytes : (board : Board) (v : Values) (image : List ℕ) (script : Script) → BytesKept board (start v image script) 0
+start_bytes : (board : Board) (v : Values) (boot : Boot) (image : List ℕ) (script : Script) → BytesKept board (start v boot image script) 0
 unfolding start after bytes_down resets_down
-start_bytes board v image script = record { uart0 = keeps_start (delay_of v 0); uart1 = keeps_start (delay_of v 1) }
+start_bytes board v boot image script = record { uart0 = keeps_start (delay_of v 0); uart1 = keeps_start (delay_of v 1) }
 
 -- for the settings of a chip
 
 setup_fits : (s : Setup) → DelaysFit (values_of s)
 setup_fits s = record { lanes = s.lanes; each = s.delays }
 
-pub credits_of_setup : (board : Board) (s : Setup) (image : List ℕ) (script : Script) (n : ℕ) → CreditsHold (after board (start (values_of s) image script) n)
-credits_of_setup board s image script n =
-    credits_after board (start (values_of s) image script) n (start_credits (values_of s) image script (setup_fits s))
+pub credits_of_setup : (board : Board) (s : Setup) (boot : Boot) (image : List ℕ) (script : Script) (n : ℕ) → CreditsHold (after board (start (values_of s) boot image script) n)
+credits_of_setup board s boot image script n =
+    credits_after board (start (values_of s) boot image script) n (start_credits (values_of s) boot image script (setup_fits s))
 
-pub none_lost_of_setup : (board : Board) (s : Setup) (image : List ℕ) (script : Script) (n : ℕ) → LosesNone (after board (start (values_of s) image script) n)
-none_lost_of_setup board s image script n = none_lost (after board (start (values_of s) image script) n) (credits_of_setup board s image script n)
+pub none_lost_of_setup : (board : Board) (s : Setup) (boot : Boot) (image : List ℕ) (script : Script) (n : ℕ) → LosesNone (after board (start (values_of s) boot image script) n)
+none_lost_of_setup board s boot image script n = none_lost (after board (start (values_of s) boot image script) n) (credits_of_setup board s boot image script n)
 
 -- as long as a chip runs, each UART sends what it was given, in order
-pub sent_of_setup : (board : Board) (s : Setup) (image : List ℕ) (script : Script) (n : ℕ) → SendsInOrder board (start (values_of s) image script) n
-sent_of_setup board s image script n =
+pub sent_of_setup : (board : Board) (s : Setup) (boot : Boot) (image : List ℕ) (script : Script) (n : ℕ) → SendsInOrder board (start (values_of s) boot image script) n
+sent_of_setup board s boot image script n =
     let v : Values = values_of s in
-    let kept : BytesKept board (start v image script) n
-    = bytes_after board (start v image script) n (start_credits v image script (setup_fits s)) (start_numbers v image script) (start_bytes board v image script) in
+    let kept : BytesKept board (start v boot image script) n
+    = bytes_after board (start v boot image script) n (start_credits v boot image script (setup_fits s)) (start_numbers v boot image script) (start_bytes board v boot image script) in
     record { uart0 = kept.uart0.bytes; uart1 = kept.uart1.bytes }

@@ -2,6 +2,7 @@
 use Rattle.std.proofs.Common.{◌≡◌, ℕ, zero, suc, ◌+◌, List, [], refl, ap, ◌∙◌, arith, add-one}
 use Rattle.chip_whole.specs.Chip.{Board, ChipState, after, start, tick}
 use Rattle.chip_base.specs.Settings.{Values}
+use Rattle.chip_base.specs.declared.boot.Boot.{Boot}
 use Rattle.chip_base.specs.declared.script.Script.{Script}
 
 pub after_zero : (board : Board) (c : ChipState) → after board c 0 ≡ c
@@ -39,10 +40,10 @@ kept_after board P step c zero h = h
 kept_after board P step c (suc n) h = step (after board c n) (kept_after board P step c n h)
 
 -- no event has come at power-on
-pub start_events : (v : Values) (image : List ℕ) (script : Script) → (start v image script).events ≡ []
+pub start_events : (v : Values) (boot : Boot) (image : List ℕ) (script : Script) → (start v boot image script).events ≡ []
 unfolding start
-start_events v image script = refl
+start_events v boot image script = refl
 
-pub start_cycle : (v : Values) (image : List ℕ) (script : Script) → (start v image script).cycle ≡ 0
+pub start_cycle : (v : Values) (boot : Boot) (image : List ℕ) (script : Script) → (start v boot image script).cycle ≡ 0
 unfolding start
-start_cycle v image script = refl
+start_cycle v boot image script = refl

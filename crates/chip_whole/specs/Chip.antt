@@ -5,6 +5,7 @@ use Rattle.board_units.specs.GpioCycle.{gpio_cycle}
 use Rattle.board_units.specs.GpioState.{GpioState, gpio_start}
 use Rattle.board_units.specs.PwmCycle.{pwm_cycle}
 use Rattle.board_units.specs.PwmState.{PwmState, pwm_reset}
+use Rattle.chip_base.specs.declared.boot.Boot.{Boot}
 use Rattle.chip_base.specs.declared.event.Event.{Event}
 use Rattle.chip_base.specs.declared.message.Down.{Down}
 use Rattle.chip_base.specs.declared.message.Up.{Up}
@@ -15,7 +16,8 @@ use Rattle.chip_base.specs.UnitTable.{link_place, unit_row}
 use Rattle.chip_base.specs.declared.chip_unit.ChipUnit.TheVariants.{Uart0, Uart1, Spi, Gpio, Pwm}
 use Rattle.chip_base.specs.Settings.{Values}
 use Rattle.chip_hub.specs.Cycle.{hub_cycle}
-use Rattle.chip_hub.specs.Start.{hub_start}
+use Rattle.chip_hub.specs.Seat.{Seat}
+use Rattle.chip_hub.specs.Start.{hub_start, seat_start}
 use Rattle.chip_hub.specs.State.{HubState, HubStep}
 use Rattle.spi_flash.specs.SpiCycle.{SpiState, spi_cycle, spi_start}
 use Rattle.soc_words.specs.Link.{link_first}
@@ -65,6 +67,8 @@ events_of (e ∷ rest) = option_to_list e ++ events_of rest
 
 pub record ChipState : Type 0 where
   pub hub : HubState
+  -- core 0's seat in the hub
+  pub seat : Seat
   pub units : Units
   -- the cycle that is next to be stepped
   pub cycle : ℕ
@@ -75,6 +79,7 @@ pub record ChipState : Type 0 where
 abbrev pub stepped : Board → ChipState → HubStep → ChipState
 stepped board c h = record {
   hub = h.hub;
+  seat = h.seat;
   units = units_after board c.units c.cycle h.downs;
   cycle = suc c.cycle;
   events = c.events ++ events_of (told_by_units board c.units c.cycle);
@@ -82,7 +87,7 @@ stepped board c h = record {
 
 -- one cycle: the hub and each unit from the state before it
 unfoldable pub tick : Board → ChipState → ChipState
-tick board c = stepped board c (hub_cycle c.hub c.cycle (arriving c.units))
+tick board c = stepped board c (hub_cycle c.hub c.seat c.cycle (arriving c.units))
 
 -- the chip after n cycles
 unfoldable pub after : Board → ChipState → ℕ → ChipState
@@ -112,6 +117,12 @@ units_start v image script = record {
   pwm = joined_start pwm_reset (delay_of v (link_place Pwm));
 }
 
--- the chip at power-on, with the bytes of a file from address 0 of IMEM: no event has come
-unfoldable pub start : Values → List ℕ → Script → ChipState
-start v image script = record { hub = hub_start v image; units = units_start v image script; cycle = 0; events = [] }
+-- the chip at power-on, with core 0's boot mode and the bytes of the file: no event has come
+unfoldable pub start : Values → Boot → List ℕ → Script → ChipState
+start v boot image script = record {
+  hub = hub_start v boot image;
+  seat = seat_start v boot;
+  units = units_start v image script;
+  cycle = 0;
+  events = [];
+}

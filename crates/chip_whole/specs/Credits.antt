@@ -39,7 +39,7 @@ pub record HasSixteen (takes : ℕ → Bool) (front : SerialRegisters) (downs : 
   pub behind_reset : NoneBehind reset_in (entry_in takes) downs
   pub behind_answer : NoneBehind done_in credit_in ups
   -- behind an answer on its way up, all is as after a reset
-  pub answered : 1 ≤ count_on done_in ups → (entries ≡ 0) × (count_on (entry_in takes) downs ≡ 0)
+  pub none_behind_answer : 1 ≤ count_on done_in ups → (entries ≡ 0) × (count_on (entry_in takes) downs ≡ 0)
 
 -- how many bytes wait in a UART
 abbrev pub waiting_in : UartState → ℕ

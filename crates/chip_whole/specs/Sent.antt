@@ -23,7 +23,7 @@ told_by unit (e ∷ rest) = (if e.unit == unit then e.value ∷ [] else []) ++ t
 
 -- what the hub sends down to a unit in the next cycle, by the unit's place
 abbrev pub sent_down : ChipState → ℕ → Option Down
-sent_down c place = get_or (hub_cycle c.hub c.cycle (arriving c.units)).downs place None
+sent_down c place = get_or (hub_cycle c.hub c.seat c.cycle (arriving c.units)).downs place None
 
 -- the bytes that were sent down to a unit in n cycles
 unfoldable pub bytes_down : Board → ChipState → ℕ → ℕ → List ℕ

@@ -1,6 +1,7 @@
 //! What holds of a chip however long it runs.
 ghost use Rattle.std.specs.Prelude.{ℕ, List};
 ghost use Rattle.chip_base.specs.Settings.{values_of};
+ghost use Rattle.chip_base.specs.declared.boot.Boot.{Boot};
 ghost use Rattle.chip_base.specs.declared.script.Script.{Script};
 ghost use Rattle.chip_base.specs.declared.setup.Setup.{Setup};
 ghost use Rattle.chip_whole.specs.Chip.{Board, after, start};
@@ -12,8 +13,8 @@ ghost use Rattle.chip_whole.specs.Sent.{SendsInOrder};
 /// unit; so no unit loses a byte but by a Reset, and what each UART sends is what it was given, in order. And the events stand by
 /// cycle and then by unit.
 pub fn always()
-    ensures credits { (board : Board) (s : Setup) (image : List ℕ) (script : Script) (n : ℕ) → CreditsHold (after board (start (values_of s) image script) n) }
-    ensures none_lost { (board : Board) (s : Setup) (image : List ℕ) (script : Script) (n : ℕ) → LosesNone (after board (start (values_of s) image script) n) }
-    ensures sent { (board : Board) (s : Setup) (image : List ℕ) (script : Script) (n : ℕ) → SendsInOrder board (start (values_of s) image script) n }
-    ensures order { (board : Board) (s : Setup) (image : List ℕ) (script : Script) (n : ℕ) → AreOrderedBefore n (after board (start (values_of s) image script) n).events }
+    ensures credits { (board : Board) (s : Setup) (boot : Boot) (image : List ℕ) (script : Script) (n : ℕ) → CreditsHold (after board (start (values_of s) boot image script) n) }
+    ensures none_lost { (board : Board) (s : Setup) (boot : Boot) (image : List ℕ) (script : Script) (n : ℕ) → LosesNone (after board (start (values_of s) boot image script) n) }
+    ensures sent { (board : Board) (s : Setup) (boot : Boot) (image : List ℕ) (script : Script) (n : ℕ) → SendsInOrder board (start (values_of s) boot image script) n }
+    ensures order { (board : Board) (s : Setup) (boot : Boot) (image : List ℕ) (script : Script) (n : ℕ) → AreOrderedBefore n (after board (start (values_of s) boot image script) n).events }
 {}

@@ -2,7 +2,13 @@
 #![tactic(auto)]
 
 #[cfg(test)]
+mod boots;
+#[cfg(test)]
+mod images;
+#[cfg(test)]
 mod programs;
+#[cfg(test)]
+mod sessions;
 #[cfg(test)]
 mod tests;
 mod top;

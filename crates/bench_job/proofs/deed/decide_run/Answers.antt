@@ -2,9 +2,9 @@ use Rattle.bench_plan.proofs.Readings.{reads_then, reads_exit_as, reads_none}
 use Rattle.bench_job.specs.Plans.{done_of, report_step}
 use Rattle.bench_job.proofs.deed.decide_run.Goals as goal
 
-pub returns-in_err-seat : goal.returns-in_err-seat
-returns-in_err-seat g c =
-    reads_exit_as (report_step c.args.job.now.cycles) done_of c.from_residual.result c.from_residual.ensures.1 c.in_err-seat.ensures
+pub returns-in_err-power_on : goal.returns-in_err-power_on
+returns-in_err-power_on g c =
+    reads_exit_as (report_step c.args.job.now.cycles) done_of c.from_residual.result c.from_residual.ensures.1 c.in_err-power_on.ensures
 
 pub returns : goal.returns
-returns g c = reads_then (report_step c.args.job.now.cycles) _ c.in_ok-seat.ensures (reads_none _ _)
+returns g c = reads_then (report_step c.args.job.now.cycles) _ c.in_ok-power_on.ensures (reads_none _ _)

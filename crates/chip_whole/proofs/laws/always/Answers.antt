@@ -12,4 +12,4 @@ pub returns-clause-sent : goal.returns-clause-sent
 returns-clause-sent c = sent_of_setup
 
 pub returns-clause-order : goal.returns-clause-order
-returns-clause-order c board s = events_ordered board (values_of s)
+returns-clause-order c board s boot = events_ordered board (values_of s) boot

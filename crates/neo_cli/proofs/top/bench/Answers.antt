@@ -1,4 +1,5 @@
-use Rattle.bench_job.proofs.Ends.{no_job, sink_failed, statuses, still, told_whole, too_large, usage_only}
+use Rattle.bench_job.proofs.Ends.{failed, no_job, quiet, refused_image, statuses, still, told_whole, usage_only}
+use Rattle.chip_gate.proofs.Gates.{gated_after}
 use Rattle.neo_cli.proofs.top.bench.Goals as goal
 
 pub returns-clause-keeps : goal.returns-clause-keeps
@@ -13,17 +14,23 @@ returns-clause-usage g c = usage_only _ _ (rw c.deref.ensures.value at c.perform
 pub returns-clause-no_job : goal.returns-clause-no_job
 returns-clause-no_job g c = no_job _ _ (rw c.deref.ensures.value at c.perform.ensures)
 
-pub returns-clause-too_large : goal.returns-clause-too_large
-returns-clause-too_large g c = too_large _ _ (rw c.deref.ensures.value at c.perform.ensures)
-
-pub returns-clause-writes : goal.returns-clause-writes
-returns-clause-writes g c = (still _ _ c.perform.ensures).0
-
-pub returns-clause-files_stay : goal.returns-clause-files_stay
-returns-clause-files_stay g c = (still _ _ c.perform.ensures).1
+pub returns-clause-refused_image : goal.returns-clause-refused_image
+returns-clause-refused_image g c = refused_image _ _ (rw c.deref.ensures.value at c.perform.ensures)
 
 pub returns-clause-write : goal.returns-clause-write
-returns-clause-write g c = sink_failed _ _ c.perform.ensures
+returns-clause-write g c = failed _ _ (rw c.deref.ensures.value at c.perform.ensures)
 
 pub returns-clause-complete : goal.returns-clause-complete
 returns-clause-complete g c = told_whole _ _ (rw c.deref.ensures.value at c.perform.ensures)
+
+pub returns-clause-writes : goal.returns-clause-writes
+returns-clause-writes g c = quiet _ _ (rw c.deref.ensures.value at c.perform.ensures)
+
+pub returns-clause-files_stay : goal.returns-clause-files_stay
+returns-clause-files_stay g c = still _ _ (rw c.deref.ensures.value at c.perform.ensures)
+
+pub returns-clause-refused_stay : goal.returns-clause-refused_stay
+returns-clause-refused_stay g c = let k = rw c.deref.ensures.value at c.perform.ensures in k.kept
+
+pub returns-clause-gate : goal.returns-clause-gate
+returns-clause-gate g c = gated_after

@@ -5,5 +5,5 @@ use Rattle.chip_net.proofs.chip.Chip.new.Goals as goal
 
 pub returns-clause-chip : goal.returns-clause-chip
 returns-clause-chip c board =
-    start_stands board (values_of c.args.setup.now) c.args.image.items c.args.script _ _ _ (rw c.deref.ensures.value at c.in_ok-hub.ensures)
+    start_stands board (values_of c.args.setup.now) c.args.boot c.args.image.items c.args.script _ _ _ (rw c.deref.ensures.value at c.in_ok-hub.ensures.hub) c.in_ok-hub.ensures.seat
     (ap (λ u. u.units) (rw c.deref-2.ensures.value at c.in_ok-units.ensures)) (ap (λ u. u.cycle) c.in_ok-units.ensures)

@@ -1,0 +1,17 @@
+use Rattle.std.proofs.Common.{Some, ap}
+use Rattle.bench_plan.proofs.Readings.{reads_then, reads_exit_as, reads_gives}
+use Rattle.bench_words.specs.Jobs.{making_view}
+use Rattle.bench_job.specs.Plans.{done_of, making_room, making_step}
+use Rattle.bench_job.proofs.deed.decide_image.Goals as goal
+
+pub returns-in_err-image : goal.returns-in_err-image
+returns-in_err-image g c =
+    reads_then (making_room (making_view c.args.job.now)) _ c.in_ok-room.ensures
+    (reads_exit_as (making_step (making_view c.args.job.now)) done_of c.from_residual-in_err-image.result c.from_residual-in_err-image.ensures.1 c.in_err-image.ensures.reads)
+
+pub returns : goal.returns
+returns g c =
+    let same = rw c.deref.ensures.value at c.image_line-text.ensures in
+    reads_then (making_room (making_view c.args.job.now)) _ c.in_ok-room.ensures
+    (reads_then (making_step (making_view c.args.job.now)) _ c.in_ok-image.ensures.reads
+    (reads_gives _ _ _ (ap (λ t. record { text = t; out = Some (record { name = c.args.job.now.out.now; bytes = c.in_ok-image.image.items }) }) same)))

@@ -1,0 +1,346 @@
+//! Images that the top call makes and checks, over files in memory.
+
+use crate::top::bench;
+use bench_shelf::{MemShelf, MemSink};
+use std::alloc::{AllocError, Global};
+use std::thread::Threads;
+
+/// What a call is given: the words, which blanks separate, the bytes of `p.bin` and of `c.toml`, and the numbers of the read, of the
+/// write and of the text that fail, 0 for none.
+#[derive(Clone, Copy)]
+struct Case<'a> {
+    words: &'a str,
+    file: &'a [u8],
+    chip: &'a [u8],
+    failing_read: u64,
+    failing_write: u64,
+    failing_put: u64,
+}
+
+/// What a call comes to: its status, its text, and the bytes of `p.img` afterwards, which holds `old` before.
+#[derive(Clone, Copy)]
+struct Wanted<'a> {
+    status: u8,
+    text: &'a str,
+    out: &'a [u8],
+}
+
+/// The image of two instructions, by its bytes.
+const IMAGE: [u8; 20] = [
+    0xfe, 0xca, 0x88, 0x47, 0x08, 0, 0, 0, 0xfe, 0xfe, 0xaf, 0xff, 0x93, 0, 0x50, 0, 0x6f, 0, 0, 0,
+];
+
+/// The image of the bytes 1 to 5.
+const FIVE: [u8; 20] = [
+    0xfe, 0xca, 0x88, 0x47, 0x08, 0, 0, 0, 0xfa, 0xfd, 0xfc, 0xfb, 1, 2, 3, 4, 5, 0, 0, 0,
+];
+
+/// What `p.img` holds before.
+const OLD: [u8; 3] = *b"old";
+
+fn words_of(alloc: Global, text: &str) -> Result<Vec<String>, AllocError> {
+    let mut words = Vec::new(alloc);
+    for word in text.split(' ') {
+        words.push(String::from_str(alloc, word)?)?;
+    }
+    Ok(words)
+}
+
+fn add_file(
+    alloc: Global,
+    files: &mut Vec<(String, Vec<u8>)>,
+    name: &str,
+    bytes: &[u8],
+) -> Result<(), AllocError> {
+    let name = String::from_str(alloc, name)?;
+    let bytes = Vec::from_slice(alloc, bytes)?;
+    files.push((name, bytes))?;
+    Ok(())
+}
+
+fn shelf_of(alloc: Global, case: &Case<'_>) -> Result<MemShelf, AllocError> {
+    let mut files = Vec::new(alloc);
+    add_file(alloc, &mut files, "p.bin", case.file)?;
+    add_file(alloc, &mut files, "p.img", &OLD)?;
+    add_file(alloc, &mut files, "c.toml", case.chip)?;
+    let reads = vec![in alloc; case.failing_read]?;
+    let writes = vec![in alloc; case.failing_write]?;
+    Ok(MemShelf::new(alloc, files, reads, writes))
+}
+
+/// Whether the files are the wanted ones, of which only `p.img` may have changed.
+fn holds(shelf: &MemShelf, case: &Case<'_>, out: &[u8]) -> bool {
+    shelf.file("p.img") == Some(out)
+        && shelf.file("p.bin") == Some(case.file)
+        && shelf.file("c.toml") == Some(case.chip)
+}
+
+/// Whether a call answers with what is wanted.
+fn answers<R: Threads + Sync>(
+    rt: &R,
+    alloc: Global,
+    case: &Case<'_>,
+    wanted: &Wanted<'_>,
+) -> Result<bool, AllocError> {
+    let words = words_of(alloc, case.words)?;
+    let mut shelf = shelf_of(alloc, case)?;
+    let mut out = MemSink::new(alloc, vec![in alloc; case.failing_put]?);
+    let status = bench(rt, alloc, &words, &mut shelf, &mut out);
+    let told = status == wanted.status && out.bytes() == wanted.text.as_bytes();
+    Ok(told && holds(&shelf, case, wanted.out))
+}
+
+/// A call in which nothing fails.
+fn plain<'a>(words: &'a str, file: &'a [u8], chip: &'a [u8]) -> Case<'a> {
+    Case {
+        words,
+        file,
+        chip,
+        failing_read: 0,
+        failing_write: 0,
+        failing_put: 0,
+    }
+}
+
+#[test]
+fn makes_images(rt: HostRuntime) -> Result<(), AllocError> {
+    for (words, file, chip, status, text, out) in [
+        (
+            "image p.bin p.img",
+            [0x93, 0, 0x50, 0, 0x6f, 0, 0, 0].as_slice(),
+            b"".as_slice(),
+            0,
+            "image 8 ffaffefe\n",
+            IMAGE.as_slice(),
+        ),
+        (
+            "image p.bin p.img",
+            &[1, 2, 3, 4, 5],
+            b"",
+            0,
+            "image 8 fbfcfdfa\n",
+            FIVE.as_slice(),
+        ),
+        (
+            "image --chip c.toml p.bin p.img",
+            &[1, 2, 3, 4, 5],
+            b"imem = 4096\n",
+            0,
+            "image 8 fbfcfdfa\n",
+            FIVE.as_slice(),
+        ),
+        (
+            "image p.bin p.img",
+            b"",
+            b"imem = 1\n",
+            4,
+            "error image size 0\n",
+            OLD.as_slice(),
+        ),
+        (
+            "image p.bin p.img --chip c.toml",
+            b"",
+            b"imem = 1\n",
+            6,
+            "error chip range imem\n",
+            OLD.as_slice(),
+        ),
+        (
+            "image p.bin p.img --chip d.toml",
+            b"",
+            b"",
+            3,
+            "error read d.toml\n",
+            OLD.as_slice(),
+        ),
+        (
+            "image q.bin p.img --chip c.toml",
+            b"",
+            b"",
+            3,
+            "error read q.bin\n",
+            OLD.as_slice(),
+        ),
+    ] {
+        let wanted = Wanted { status, text, out };
+        assert!(&rt;
+            answers(&rt, rt.alloc(), &plain(words, file, chip), &wanted)?,
+            "{words} {text}"
+        );
+    }
+    Ok(())
+}
+
+/// Whether a payload of so many zero bytes is refused with this status and text.
+fn refuses_zeros<R: Threads + Sync>(
+    rt: &R,
+    alloc: Global,
+    words: &str,
+    count: usize,
+    status: u8,
+    text: &str,
+) -> Result<bool, AllocError> {
+    let file = vec![in alloc; 0u8; count]?;
+    let wanted = Wanted {
+        status,
+        text,
+        out: &OLD,
+    };
+    answers(rt, alloc, &plain(words, &file, b"imem = 4096\n"), &wanted)
+}
+
+/// Whether a payload of so many zero bytes is made an image with this line.
+fn wraps_zeros<R: Threads + Sync>(
+    rt: &R,
+    alloc: Global,
+    words: &str,
+    count: usize,
+    text: &str,
+) -> Result<bool, AllocError> {
+    let file = vec![in alloc; 0u8; count]?;
+    let words = words_of(alloc, words)?;
+    let mut shelf = shelf_of(alloc, &plain("", &file, b"imem = 4096\n"))?;
+    let mut out = MemSink::new(alloc, Vec::new(alloc));
+    let status = bench(rt, alloc, &words, &mut shelf, &mut out);
+    Ok(status == 0 && out.bytes() == text.as_bytes())
+}
+
+#[test]
+fn limits_payloads(rt: HostRuntime) -> Result<(), AllocError> {
+    for (words, count, status, text) in [
+        (
+            "image p.bin p.img --chip c.toml",
+            4_097,
+            4,
+            "error image size 4100\n",
+        ),
+        (
+            "image p.bin p.img",
+            1_048_577,
+            4,
+            "error image size 1048580\n",
+        ),
+        (
+            "image p.bin p.img",
+            2_097_152,
+            4,
+            "error image size 2097152\n",
+        ),
+        ("image p.bin p.img", 2_097_153, 3, "error long p.bin\n"),
+    ] {
+        assert!(&rt;
+            refuses_zeros(&rt, rt.alloc(), words, count, status, text)?,
+            "{text}"
+        );
+    }
+    for (words, count, text) in [
+        (
+            "image p.bin p.img --chip c.toml",
+            4_093,
+            "image 4096 00000000\n",
+        ),
+        ("image p.bin p.img", 1_048_573, "image 1048576 00000000\n"),
+    ] {
+        assert!(&rt; wraps_zeros(&rt, rt.alloc(), words, count, text)?, "{text}");
+    }
+    Ok(())
+}
+
+#[test]
+fn tells_failures_of_images(rt: HostRuntime) -> Result<(), AllocError> {
+    for (failing_read, failing_write, failing_put, status, text, out) in [
+        (0, 1, 0, 7, "", OLD.as_slice()),
+        (0, 0, 1, 7, "", IMAGE.as_slice()),
+        (0, 2, 2, 0, "image 8 ffaffefe\n", IMAGE.as_slice()),
+        (1, 0, 0, 3, "error read p.bin\n", OLD.as_slice()),
+    ] {
+        let case = Case {
+            words: "image p.bin p.img",
+            file: &[0x93, 0, 0x50, 0, 0x6f, 0, 0, 0],
+            chip: &[],
+            failing_read,
+            failing_write,
+            failing_put,
+        };
+        let wanted = Wanted { status, text, out };
+        assert!(&rt; answers(&rt, rt.alloc(), &case, &wanted)?, "{text}");
+    }
+    Ok(())
+}
+
+/// The bytes of the image with one byte changed, of which so many are left, or more with zero bytes behind.
+fn changed(alloc: Global, place: usize, byte: u8, count: usize) -> Result<Vec<u8>, AllocError> {
+    let mut image = Vec::from_slice(alloc, &IMAGE)?;
+    if place < image.len() {
+        image[place] = byte;
+    }
+    image.resize(count, 0)?;
+    Ok(image)
+}
+
+#[test]
+fn checks_images(rt: HostRuntime) -> Result<(), AllocError> {
+    for (place, byte, count, status, text) in [
+        (0, 0xfe, 20, 0, "image 8 ffaffefe\n"),
+        (19, 1, 20, 4, "error image checksum 01000000\n"),
+        (0, 0xfe, 21, 4, "error image extra 21\n"),
+        (0, 0xfe, 19, 4, "error image short 19\n"),
+        (0, 0xfe, 11, 4, "error image short 11\n"),
+        (0, 0xfe, 0, 4, "error image short 0\n"),
+        (0, 0, 20, 4, "error image signature 4788ca00\n"),
+        (4, 6, 20, 4, "error image size 6\n"),
+        (4, 0, 20, 4, "error image size 0\n"),
+        (6, 0x10, 20, 4, "error image size 1048584\n"),
+        (6, 1, 20, 4, "error image short 20\n"),
+    ] {
+        let file = changed(rt.alloc(), place, byte, count)?;
+        let wanted = Wanted {
+            status,
+            text,
+            out: &OLD,
+        };
+        assert!(&rt;
+            answers(&rt, rt.alloc(), &plain("check p.bin", &file, b""), &wanted)?,
+            "{text}"
+        );
+    }
+    for (words, place, byte, chip, status, text) in [
+        (
+            "check --chip c.toml p.bin",
+            5,
+            0x10,
+            b"imem = 4096\n".as_slice(),
+            4,
+            "error image size 4104\n",
+        ),
+        (
+            "check --chip c.toml p.bin",
+            5,
+            0x10,
+            b"imem = 8192\n",
+            4,
+            "error image short 20\n",
+        ),
+        (
+            "check p.bin --chip=c.toml",
+            0,
+            0,
+            b"imem = true\n",
+            6,
+            "error chip key\n",
+        ),
+        ("check q.bin", 0, 0, b"", 3, "error read q.bin\n"),
+    ] {
+        let file = changed(rt.alloc(), place, byte, 20)?;
+        let wanted = Wanted {
+            status,
+            text,
+            out: &OLD,
+        };
+        assert!(&rt;
+            answers(&rt, rt.alloc(), &plain(words, &file, chip), &wanted)?,
+            "{text}"
+        );
+    }
+    Ok(())
+}
