@@ -2,7 +2,7 @@
 use Rattle.std.proofs.Common.{◌≡◌, ℕ, false, List, Option, None, Some, refl, sym, ap, ◌∙◌, subst}
 use Rattle.chip_base.specs.declared.message.Up.{Up}
 use Rattle.chip_hub.specs.Access.{Accessed, accessed}
-use Rattle.chip_hub.specs.Cycle.{answered0, heard, hub_cycle, seat_after, served, served0, served1, served2, served_to, timed, turn0, turn1, turned0, wanted0, wants_of}
+use Rattle.chip_hub.specs.Cycle.{answered0, arrived, hub_cycle, seat_after, served, served0, served1, served2, served_to, timed, turn0, turn1, turned0, wanted0, wants_of}
 use Rattle.chip_hub.specs.Seat.{Seat}
 use Rattle.chip_hub.specs.State.{HubState, HubStep}
 use Rattle.core_pair.specs.Core.{CoreState, wanted_in}
@@ -68,7 +68,7 @@ served_out s seat (Some Copier) h = served2_out s seat (dma_wanted s.dma) h
 pub cycle_out : (s : HubState) (seat : Seat) (now : ℕ) (ups : List (Option Up)) → is_monitor s.core0.phase ≡ false → StaysOut seat (hub_cycle s seat now ups)
 unfolding hub_cycle
 cycle_out s seat now ups h =
-    let at_time : HubState = timed (heard s ups) in
+    let at_time : HubState = timed (arrived s ups) in
     let turned : HubState = turn1 (turn0 at_time seat now) now in
     let out : is_monitor turned.core0.phase ≡ false = turn_out at_time seat now s.core0.phase refl h in
     let then_seat : Seat = seat_after seat now s.core0.phase in

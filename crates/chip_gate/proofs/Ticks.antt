@@ -16,7 +16,7 @@ use Rattle.chip_base.specs.Settings.{Values}
 use Rattle.chip_base.specs.declared.boot.Boot.TheVariants.{Monitor as AtBoot}
 use Rattle.chip_base.specs.declared.message.Up.{Up}
 use Rattle.chip_hub.specs.Access.{accessed}
-use Rattle.chip_hub.specs.Cycle.{answered0, heard, hub_cycle, nobody_served, seat_after, served, served0, served_to, timed, turn0, turn1, turned0, turned1, wanted0, wants_of}
+use Rattle.chip_hub.specs.Cycle.{answered0, arrived, hub_cycle, nobody_served, seat_after, served, served0, served_to, timed, turn0, turn1, turned0, turned1, wanted0, wants_of}
 use Rattle.chip_hub.specs.Seat.{Seat, asked, hands_over, is_hand_over, reply_in, request_in, seat_turned, standing}
 use Rattle.chip_hub.specs.Start.{hub_start, seat_start}
 use Rattle.chip_hub.specs.State.{HubState, HubStep}
@@ -198,7 +198,7 @@ core1_stays s now Monitor e h still = let bad : ⊥ = cc in elim bad [ ]
 
 -- the hub after the arrivals, mtime and both turns
 abbrev turned_hub : HubState → Seat → ℕ → List (Option Up) → HubState
-turned_hub s seat now ups = turn1 (turn0 (timed (heard s ups)) seat now) now
+turned_hub s seat now ups = turn1 (turn0 (timed (arrived s ups)) seat now) now
 
 handed_turned : (seat : Seat) (now : ℕ) (b : Bool) → hands_over seat ≡ b → (seat_turned seat now).handed ≡ if◌then◌else◌ {A = Option ℕ} b (Some now) (seat.handed)
 handed_turned seat now b hands = ap (λ b. if◌then◌else◌ {A = Option ℕ} b (Some now) (seat.handed)) hands
@@ -206,7 +206,7 @@ handed_turned seat now b hands = ap (λ b. if◌then◌else◌ {A = Option ℕ} 
 at_turned : (v : Values) (s : HubState) (seat : Seat) (now : ℕ) (ups : List (Option Up)) → hands_over seat ≡ false → AtMonitor v s seat → AtMonitor v (turned_hub s seat now ups) (seat_turned seat now)
 at_turned v s seat now ups stays at = record {
   clock = at.clock;
-  parked = core1_stays (turn0 (timed (heard s ups)) seat now) now s.core1.phase refl at.parked at.still;
+  parked = core1_stays (turn0 (timed (arrived s ups)) seat now) now s.core1.phase refl at.parked at.still;
   still = at.still;
   idle = at.idle;
   dmem = at.dmem;
@@ -241,8 +241,8 @@ unfolding phase_of
 by_turn v s seat now ups fits boot room phase at true hands o e =
     let t : HubState = turned_hub s seat now ups in
     let q : Seat = seat_turned seat now in
-    let left : t.core0.phase ≡ Run 0 = ap phase_of (core0_turned (timed (heard s ups)) seat now true phase hands) in
-    serves_none (AfterMonitor v) t q (ap (wanted0 q) left) (core1_stays (turn0 (timed (heard s ups)) seat now) now s.core1.phase refl at.parked at.still) at.idle (λ turns. record {
+    let left : t.core0.phase ≡ Run 0 = ap phase_of (core0_turned (timed (arrived s ups)) seat now true phase hands) in
+    serves_none (AfterMonitor v) t q (ap (wanted0 q) left) (core1_stays (turn0 (timed (arrived s ups)) seat now) now s.core1.phase refl at.parked at.still) at.idle (λ turns. record {
       keeps = record { boot = boot; room = room; there = λ h. elim (never (sym (ap is_monitor left) ∙ h)) [ ]; left = λ h. record { over = asked_turned seat now ∙ over seat hands; handed = ap is_none (handed_turned seat now true hands) } };
       stored = at.imem;
     })
@@ -250,14 +250,14 @@ by_turn v s seat now ups fits boot room phase at false hands None e =
     let t : HubState = turned_hub s seat now ups in
     let q : Seat = seat_turned seat now in
     let at_turn : AtMonitor v t q = at_turned v s seat now ups hands at in
-    let still_there : t.core0.phase ≡ Monitor = ap phase_of (core0_turned (timed (heard s ups)) seat now false phase hands) ∙ phase in
+    let still_there : t.core0.phase ≡ Monitor = ap phase_of (core0_turned (timed (arrived s ups)) seat now false phase hands) ∙ phase in
     serves_none (AfterMonitor v) t q (ap (wanted0 q) still_there ∙ e) at_turn.parked at_turn.idle
     (λ turns. stays_in v (nobody_served (record t { arbiter = turns }) q) boot room still_there (at_turns v t q turns at_turn))
 by_turn v s seat now ups fits boot room phase at false hands (Some request) e =
     let t : HubState = turned_hub s seat now ups in
     let q : Seat = seat_turned seat now in
     let at_turn : AtMonitor v t q = at_turned v s seat now ups hands at in
-    let still_there : t.core0.phase ≡ Monitor = ap phase_of (core0_turned (timed (heard s ups)) seat now false phase hands) ∙ phase in
+    let still_there : t.core0.phase ≡ Monitor = ap phase_of (core0_turned (timed (arrived s ups)) seat now false phase hands) ∙ phase in
     serves_one (AfterMonitor v) t q request still_there e at_turn.parked at_turn.idle
     (λ turns. stays_in v (answered0 (accessed (record t { arbiter = turns }) request) q Monitor) boot room
     (ap phase_of (accessed_core (record t { arbiter = turns }) request) ∙ still_there)

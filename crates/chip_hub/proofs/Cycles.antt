@@ -5,7 +5,7 @@ use Rattle.chip_base.specs.declared.message.Up.{Up}
 use Rattle.core_pair.specs.declared.phase.Phase.TheVariants.{Want}
 use Rattle.soc_bus.specs.declared.access.Request.{Request}
 use Rattle.chip_hub.specs.Access.{accessed}
-use Rattle.chip_hub.specs.Cycle.{answered0, heard, hub_cycle, seat_after, served, served0, timed, turn0, turn1, wanted0, wants_of}
+use Rattle.chip_hub.specs.Cycle.{answered0, arrived, hub_cycle, seat_after, served, served0, timed, turn0, turn1, wanted0, wants_of}
 use Rattle.chip_hub.specs.Kept.{HubKept, SeatKept, SeatStands, StepStands}
 use Rattle.chip_hub.specs.Seat.{Seat}
 use Rattle.chip_hub.specs.State.{HubState, HubStep}
@@ -23,7 +23,7 @@ want_served s new k seat request sent e step h =
 
 -- all six steps
 pub cycle_stands : (s at_time after_core0 after_core1 : HubState) (seat : Seat) (now wants : ℕ) (ups : List (Option Up)) (kept : HubKept) (sent : List (Option Down))
-    → at_time ≡ timed (heard s ups) → after_core0 ≡ turn0 at_time seat now → after_core1 ≡ turn1 after_core0 now
+    → at_time ≡ timed (arrived s ups) → after_core0 ≡ turn0 at_time seat now → after_core1 ≡ turn1 after_core0 now
     → wants ≡ wants_of after_core1 (seat_after seat now at_time.core0.phase)
     → StepStands kept sent (served after_core1 (seat_after seat now at_time.core0.phase) wants)
     → StepStands kept sent (hub_cycle s seat now ups)

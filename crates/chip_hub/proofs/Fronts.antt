@@ -28,7 +28,7 @@ use Rattle.unit_fronts.specs.UartFront.{uart_kind}
 use Rattle.unit_fronts.proofs.Counts.{loads, spends}
 use Rattle.chip_base.specs.UnitTable.{link_place, unit_numbered}
 use Rattle.chip_hub.specs.Access.{Accessed, accessed, accessed_by, in_clint, in_device, in_dma, in_mailbox, in_memory, in_numbered, in_region, in_sysinfo, memory_stored}
-use Rattle.chip_hub.specs.Cycle.{heard, heard_by_gpio, heard_by_pwm, hub_cycle, seat_after, served, served0, served1, served2, served_to, timed, turn0, turn1, wanted0, wants_of}
+use Rattle.chip_hub.specs.Cycle.{arrived, arrived_at_gpio, arrived_at_pwm, hub_cycle, seat_after, served, served0, served1, served2, served_to, timed, turn0, turn1, wanted0, wants_of}
 use Rattle.chip_hub.specs.Seat.{Seat}
 use Rattle.chip_hub.specs.State.{Fronts, HubState}
 use Rattle.chip_hub.specs.Units.{at_gpio, at_pwm, at_serial, fronts_after, messages_in, only_to, silent, unit_down}
@@ -36,43 +36,43 @@ use Rattle.chip_hub.specs.Units.{at_gpio, at_pwm, at_serial, fronts_after, messa
 -- a relation between the fronts before an access, the fronts after it and the messages that go down holds of every access
 pub record HoldsOfAccesses (Q : Fronts → Fronts → List (Option Down) → Type 0) : Type 0 where
   -- where no front is reached
-  pub quiet : (f : Fronts) → Q f f silent
+  pub no_front : (f : Fronts) → Q f f silent
   -- at the registers of a unit
   pub device : (s : HubState) (r : Request) (unit : ChipUnit) (reg : ℕ) → Q s.fronts (in_device s r unit reg).hub.fronts (in_device s r unit reg).downs
 
 memory_store : (Q : Fronts → Fronts → List (Option Down) → Type 0) → HoldsOfAccesses Q → (s : HubState) (m : Result MemoryState BusFault)
     → Q s.fronts (memory_stored s m).hub.fronts (memory_stored s m).downs
-memory_store Q h s (Ok m) = h.quiet s.fronts
-memory_store Q h s (Err fault) = h.quiet s.fronts
+memory_store Q h s (Ok m) = h.no_front s.fronts
+memory_store Q h s (Err fault) = h.no_front s.fronts
 
 memory_access : (Q : Fronts → Fronts → List (Option Down) → Type 0) → HoldsOfAccesses Q → (s : HubState) (r : Request) (store : Option ℕ)
     → Q s.fronts (in_memory s r store).hub.fronts (in_memory s r store).downs
-memory_access Q h s r None = h.quiet s.fronts
+memory_access Q h s r None = h.no_front s.fronts
 memory_access Q h s r (Some value) = memory_store Q h s (store_of s.memory r.addr r.width value)
 
 clint_access : (Q : Fronts → Fronts → List (Option Down) → Type 0) → HoldsOfAccesses Q → (s : HubState) (r : Request) (store : Option ℕ)
     → Q s.fronts (in_clint s r store).hub.fronts (in_clint s r store).downs
-clint_access Q h s r None = h.quiet s.fronts
-clint_access Q h s r (Some value) = h.quiet s.fronts
+clint_access Q h s r None = h.no_front s.fronts
+clint_access Q h s r (Some value) = h.no_front s.fronts
 
 mailbox_access : (Q : Fronts → Fronts → List (Option Down) → Type 0) → HoldsOfAccesses Q → (s : HubState) (r : Request) (store : Option ℕ)
     → Q s.fronts (in_mailbox s r store).hub.fronts (in_mailbox s r store).downs
-mailbox_access Q h s r None = h.quiet s.fronts
-mailbox_access Q h s r (Some value) = h.quiet s.fronts
+mailbox_access Q h s r None = h.no_front s.fronts
+mailbox_access Q h s r (Some value) = h.no_front s.fronts
 
 sysinfo_access : (Q : Fronts → Fronts → List (Option Down) → Type 0) → HoldsOfAccesses Q → (s : HubState) (r : Request) (store : Option ℕ)
     → Q s.fronts (in_sysinfo s r store).hub.fronts (in_sysinfo s r store).downs
-sysinfo_access Q h s r None = h.quiet s.fronts
-sysinfo_access Q h s r (Some value) = h.quiet s.fronts
+sysinfo_access Q h s r None = h.no_front s.fronts
+sysinfo_access Q h s r (Some value) = h.no_front s.fronts
 
 dma_access : (Q : Fronts → Fronts → List (Option Down) → Type 0) → HoldsOfAccesses Q → (s : HubState) (r : Request) (store : Option ℕ)
     → Q s.fronts (in_dma s r store).hub.fronts (in_dma s r store).downs
-dma_access Q h s r None = h.quiet s.fronts
-dma_access Q h s r (Some value) = h.quiet s.fronts
+dma_access Q h s r None = h.no_front s.fronts
+dma_access Q h s r (Some value) = h.no_front s.fronts
 
 numbered_access : (Q : Fronts → Fronts → List (Option Down) → Type 0) → HoldsOfAccesses Q → (s : HubState) (r : Request) (unit : Option ChipUnit) (reg : ℕ)
     → Q s.fronts (in_numbered s r unit reg).hub.fronts (in_numbered s r unit reg).downs
-numbered_access Q h s r None reg = h.quiet s.fronts
+numbered_access Q h s r None reg = h.no_front s.fronts
 numbered_access Q h s r (Some unit) reg = h.device s r unit reg
 
 region_access : (Q : Fronts → Fronts → List (Option Down) → Type 0) → HoldsOfAccesses Q → (s : HubState) (r : Request) (region : Region)
@@ -88,7 +88,7 @@ region_access Q h s r (Device number reg) = numbered_access Q h s r (unit_number
 found_access : (Q : Fronts → Fronts → List (Option Down) → Type 0) → HoldsOfAccesses Q → (s : HubState) (r : Request) (found : Result Region BusFault)
     → Q s.fronts (accessed_by s r found).hub.fronts (accessed_by s r found).downs
 found_access Q h s r (Ok region) = region_access Q h s r region
-found_access Q h s r (Err fault) = h.quiet s.fronts
+found_access Q h s r (Err fault) = h.no_front s.fronts
 
 every_access : (Q : Fronts → Fronts → List (Option Down) → Type 0) → HoldsOfAccesses Q → (s : HubState) (r : Request)
     → Q s.fronts (accessed s r).hub.fronts (accessed s r).downs
@@ -97,22 +97,22 @@ every_access Q h s r = found_access Q h s r (admitted r _ _)
 
 core0_access : (Q : Fronts → Fronts → List (Option Down) → Type 0) → HoldsOfAccesses Q → (s : HubState) (seat : Seat) (wanted : Option Request)
     → Q s.fronts (served0 s seat wanted).hub.fronts (served0 s seat wanted).downs
-core0_access Q h s seat None = h.quiet s.fronts
+core0_access Q h s seat None = h.no_front s.fronts
 core0_access Q h s seat (Some request) = every_access Q h s request
 
 core1_access : (Q : Fronts → Fronts → List (Option Down) → Type 0) → HoldsOfAccesses Q → (s : HubState) (seat : Seat) (wanted : Option Request)
     → Q s.fronts (served1 s seat wanted).hub.fronts (served1 s seat wanted).downs
-core1_access Q h s seat None = h.quiet s.fronts
+core1_access Q h s seat None = h.no_front s.fronts
 core1_access Q h s seat (Some request) = every_access Q h s request
 
 dma_served : (Q : Fronts → Fronts → List (Option Down) → Type 0) → HoldsOfAccesses Q → (s : HubState) (seat : Seat) (wanted : Option Request)
     → Q s.fronts (served2 s seat wanted).hub.fronts (served2 s seat wanted).downs
-dma_served Q h s seat None = h.quiet s.fronts
+dma_served Q h s seat None = h.no_front s.fronts
 dma_served Q h s seat (Some request) = every_access Q h s request
 
 grant : (Q : Fronts → Fronts → List (Option Down) → Type 0) → HoldsOfAccesses Q → (s : HubState) (seat : Seat) (master : Option Master)
     → Q s.fronts (served_to s seat master).hub.fronts (served_to s seat master).downs
-grant Q h s seat None = h.quiet s.fronts
+grant Q h s seat None = h.no_front s.fronts
 grant Q h s seat (Some Core0) = core0_access Q h s seat (wanted0 seat s.core0.phase)
 grant Q h s seat (Some Core1) = core1_access Q h s seat (wanted_in s.core1.phase)
 grant Q h s seat (Some Copier) = dma_served Q h s seat (dma_wanted s.dma)
@@ -123,10 +123,10 @@ served_fronts Q h s seat wants = grant Q h _ seat (granted s.arbiter wants)
 
 -- after the arrivals, a cycle makes one access at most
 pub cycle_fronts : (Q : Fronts → Fronts → List (Option Down) → Type 0) → HoldsOfAccesses Q → (s : HubState) (seat : Seat) (now : ℕ) (ups : List (Option Up))
-    → Q (heard s ups).fronts (hub_cycle s seat now ups).hub.fronts (hub_cycle s seat now ups).downs
+    → Q (arrived s ups).fronts (hub_cycle s seat now ups).hub.fronts (hub_cycle s seat now ups).downs
 unfolding hub_cycle
 cycle_fronts Q h s seat now ups =
-    let after : HubState = turn1 (turn0 (timed (heard s ups)) seat now) now in
+    let after : HubState = turn1 (turn0 (timed (arrived s ups)) seat now) now in
     let then_seat : Seat = seat_after seat now s.core0.phase in
     served_fronts Q h after then_seat (wants_of after then_seat)
 
@@ -151,21 +151,21 @@ one_to Wdt (Some m) = omega arith
 pub region_sends_one : (s : HubState) (r : Request) (region : Region) (a : Accessed) → a ≡ in_region s r region → messages_in a.downs ≤ 1
 region_sends_one s r region a e =
     subst (λ x. messages_in x.downs ≤ 1) (sym e) (region_access (λ old new downs. messages_in downs ≤ 1) (record {
-      quiet = λ f. omega arith;
+      no_front = λ f. omega arith;
       device = λ s r unit reg. one_to unit (unit_down s.fronts r unit reg);
     }) s r region)
 
 -- what an access does to a front, and the message that it sends down
-pub record ServesPort (takes : ℕ → Bool) (old : SerialRegisters) (down : Option Down) (new : SerialRegisters) : Type 0 where
+pub record ServesSerial (takes : ℕ → Bool) (old : SerialRegisters) (down : Option Down) (new : SerialRegisters) : Type 0 where
   pub credits : SpendsCredits takes old down new
   -- a closed front sends no entry
   pub closed : serial_is_open old ≡ false → entry_in takes down ≡ 0
   pub no_reset : reset_in down ≡ 0
 
-serves_nothing : (takes : ℕ → Bool) (p : SerialRegisters) → ServesPort takes p None p
+serves_nothing : (takes : ℕ → Bool) (p : SerialRegisters) → ServesSerial takes p None p
 serves_nothing takes p = record { credits = record { credits = omega arith; owed = refl }; closed = λ c. refl; no_reset = refl }
 
-serial_load : (takes : ℕ → Bool) (p : SerialRegisters) (reg : ℕ) → ServesPort takes p None (serial_loaded p reg)
+serial_load : (takes : ℕ → Bool) (p : SerialRegisters) (reg : ℕ) → ServesSerial takes p None (serial_loaded p reg)
 serial_load takes p reg = record { credits = loads takes p reg; closed = λ c. refl; no_reset = refl }
 
 serial_no_reset : (kind : SerialKind) (p : SerialRegisters) (reg word : ℕ) (open_now control entry empty : Bool) → serial_is_open p ≡ open_now → eqb reg 0 ≡ control
@@ -176,7 +176,7 @@ serial_no_reset kind p reg word true false false d e f t g = rw (e, f, t) refl
 serial_no_reset kind p reg word true false true true e f t g = rw (e, f, t, g) refl
 serial_no_reset kind p reg word true false true false e f t g = rw (e, f, t, g) refl
 
-serial_store : (kind : SerialKind) → kind.takes 0 ≡ false → (p : SerialRegisters) (reg word : ℕ) → ServesPort kind.takes p (serial_sent kind p reg word) (serial_stored kind p reg word)
+serial_store : (kind : SerialKind) → kind.takes 0 ≡ false → (p : SerialRegisters) (reg word : ℕ) → ServesSerial kind.takes p (serial_sent kind p reg word) (serial_stored kind p reg word)
 serial_store kind z p reg word = record {
   credits = spends kind p reg word z;
   closed = λ c. rw c refl;
@@ -185,12 +185,12 @@ serial_store kind z p reg word = record {
 
 -- what an access does to the front that it reaches
 serial_access : (kind : SerialKind) → kind.takes 0 ≡ false → (p : SerialRegisters) (r : Request) (reg : ℕ) (store : Option ℕ)
-    → ServesPort kind.takes p (at_serial kind p r reg store).down (at_serial kind p r reg store).front
+    → ServesSerial kind.takes p (at_serial kind p r reg store).down (at_serial kind p r reg store).front
 serial_access kind z p r reg None = serial_load kind.takes p reg
 serial_access kind z p r reg (Some value) = serial_store kind z p reg value
 
 -- what an access to a unit's registers does to the front of uart0
-uart0_reached : (f : Fronts) (r : Request) (unit : ChipUnit) (reg : ℕ) → ServesPort at_data f.uart0 (get_or (only_to unit (unit_down f r unit reg)) (link_place Uart0) None) (fronts_after f r unit reg).uart0
+uart0_reached : (f : Fronts) (r : Request) (unit : ChipUnit) (reg : ℕ) → ServesSerial at_data f.uart0 (get_or (only_to unit (unit_down f r unit reg)) (link_place Uart0) None) (fronts_after f r unit reg).uart0
 uart0_reached f r Uart0 reg = serial_access uart_kind refl f.uart0 r reg r.store
 uart0_reached f r Uart1 reg = serves_nothing at_data f.uart0
 uart0_reached f r Spi reg = serves_nothing at_data f.uart0
@@ -201,14 +201,14 @@ uart0_reached f r Wdt reg = serves_nothing at_data f.uart0
 
 -- what a cycle does to the front of uart0, after the arrivals
 pub serves_uart0 : (s : HubState) (seat : Seat) (now : ℕ) (ups : List (Option Up))
-    → ServesPort at_data (heard s ups).fronts.uart0 (get_or (hub_cycle s seat now ups).downs (link_place Uart0) None) (hub_cycle s seat now ups).hub.fronts.uart0
-serves_uart0 = cycle_fronts (λ old new downs. ServesPort at_data old.uart0 (get_or downs (link_place Uart0) None) new.uart0) (record {
-  quiet = λ f. serves_nothing at_data f.uart0;
+    → ServesSerial at_data (arrived s ups).fronts.uart0 (get_or (hub_cycle s seat now ups).downs (link_place Uart0) None) (hub_cycle s seat now ups).hub.fronts.uart0
+serves_uart0 = cycle_fronts (λ old new downs. ServesSerial at_data old.uart0 (get_or downs (link_place Uart0) None) new.uart0) (record {
+  no_front = λ f. serves_nothing at_data f.uart0;
   device = λ s r unit reg. uart0_reached s.fronts r unit reg;
 })
 
 -- what an access to a unit's registers does to the front of uart1
-uart1_reached : (f : Fronts) (r : Request) (unit : ChipUnit) (reg : ℕ) → ServesPort at_data f.uart1 (get_or (only_to unit (unit_down f r unit reg)) (link_place Uart1) None) (fronts_after f r unit reg).uart1
+uart1_reached : (f : Fronts) (r : Request) (unit : ChipUnit) (reg : ℕ) → ServesSerial at_data f.uart1 (get_or (only_to unit (unit_down f r unit reg)) (link_place Uart1) None) (fronts_after f r unit reg).uart1
 uart1_reached f r Uart0 reg = serves_nothing at_data f.uart1
 uart1_reached f r Uart1 reg = serial_access uart_kind refl f.uart1 r reg r.store
 uart1_reached f r Spi reg = serves_nothing at_data f.uart1
@@ -219,14 +219,14 @@ uart1_reached f r Wdt reg = serves_nothing at_data f.uart1
 
 -- what a cycle does to the front of uart1, after the arrivals
 pub serves_uart1 : (s : HubState) (seat : Seat) (now : ℕ) (ups : List (Option Up))
-    → ServesPort at_data (heard s ups).fronts.uart1 (get_or (hub_cycle s seat now ups).downs (link_place Uart1) None) (hub_cycle s seat now ups).hub.fronts.uart1
-serves_uart1 = cycle_fronts (λ old new downs. ServesPort at_data old.uart1 (get_or downs (link_place Uart1) None) new.uart1) (record {
-  quiet = λ f. serves_nothing at_data f.uart1;
+    → ServesSerial at_data (arrived s ups).fronts.uart1 (get_or (hub_cycle s seat now ups).downs (link_place Uart1) None) (hub_cycle s seat now ups).hub.fronts.uart1
+serves_uart1 = cycle_fronts (λ old new downs. ServesSerial at_data old.uart1 (get_or downs (link_place Uart1) None) new.uart1) (record {
+  no_front = λ f. serves_nothing at_data f.uart1;
   device = λ s r unit reg. uart1_reached s.fronts r unit reg;
 })
 
 -- what an access to a unit's registers does to the front of spi
-spi_reached : (f : Fronts) (r : Request) (unit : ChipUnit) (reg : ℕ) → ServesPort at_either_data f.spi (get_or (only_to unit (unit_down f r unit reg)) (link_place Spi) None) (fronts_after f r unit reg).spi
+spi_reached : (f : Fronts) (r : Request) (unit : ChipUnit) (reg : ℕ) → ServesSerial at_either_data f.spi (get_or (only_to unit (unit_down f r unit reg)) (link_place Spi) None) (fronts_after f r unit reg).spi
 spi_reached f r Uart0 reg = serves_nothing at_either_data f.spi
 spi_reached f r Uart1 reg = serves_nothing at_either_data f.spi
 spi_reached f r Spi reg = serial_access spi_kind refl f.spi r reg r.store
@@ -237,9 +237,9 @@ spi_reached f r Wdt reg = serves_nothing at_either_data f.spi
 
 -- what a cycle does to the front of spi, after the arrivals
 pub serves_spi : (s : HubState) (seat : Seat) (now : ℕ) (ups : List (Option Up))
-    → ServesPort at_either_data (heard s ups).fronts.spi (get_or (hub_cycle s seat now ups).downs (link_place Spi) None) (hub_cycle s seat now ups).hub.fronts.spi
-serves_spi = cycle_fronts (λ old new downs. ServesPort at_either_data old.spi (get_or downs (link_place Spi) None) new.spi) (record {
-  quiet = λ f. serves_nothing at_either_data f.spi;
+    → ServesSerial at_either_data (arrived s ups).fronts.spi (get_or (hub_cycle s seat now ups).downs (link_place Spi) None) (hub_cycle s seat now ups).hub.fronts.spi
+serves_spi = cycle_fronts (λ old new downs. ServesSerial at_either_data old.spi (get_or downs (link_place Spi) None) new.spi) (record {
+  no_front = λ f. serves_nothing at_either_data f.spi;
   device = λ s r unit reg. spi_reached s.fronts r unit reg;
 })
 
@@ -291,9 +291,9 @@ gpio_reached f r Wdt reg = no_answers f.gpio.owed
 
 -- what a cycle does to the fronts of gpio and pwm, after the arrivals
 pub serves_gpio : (s : HubState) (seat : Seat) (now : ℕ) (ups : List (Option Up))
-    → ServesAnswers (heard s ups).fronts.gpio.owed (get_or (hub_cycle s seat now ups).downs (link_place Gpio) None) (hub_cycle s seat now ups).hub.fronts.gpio.owed
+    → ServesAnswers (arrived s ups).fronts.gpio.owed (get_or (hub_cycle s seat now ups).downs (link_place Gpio) None) (hub_cycle s seat now ups).hub.fronts.gpio.owed
 serves_gpio = cycle_fronts (λ old new downs. ServesAnswers old.gpio.owed (get_or downs (link_place Gpio) None) new.gpio.owed) (record {
-  quiet = λ f. no_answers f.gpio.owed;
+  no_front = λ f. no_answers f.gpio.owed;
   device = λ s r unit reg. gpio_reached s.fronts r unit reg;
 })
 
@@ -308,9 +308,9 @@ pwm_reached f r Slink reg = no_answers f.pwm.owed
 pwm_reached f r Wdt reg = no_answers f.pwm.owed
 
 pub serves_pwm : (s : HubState) (seat : Seat) (now : ℕ) (ups : List (Option Up))
-    → ServesAnswers (heard s ups).fronts.pwm.owed (get_or (hub_cycle s seat now ups).downs (link_place Pwm) None) (hub_cycle s seat now ups).hub.fronts.pwm.owed
+    → ServesAnswers (arrived s ups).fronts.pwm.owed (get_or (hub_cycle s seat now ups).downs (link_place Pwm) None) (hub_cycle s seat now ups).hub.fronts.pwm.owed
 serves_pwm = cycle_fronts (λ old new downs. ServesAnswers old.pwm.owed (get_or downs (link_place Pwm) None) new.pwm.owed) (record {
-  quiet = λ f. no_answers f.pwm.owed;
+  no_front = λ f. no_answers f.pwm.owed;
   device = λ s r unit reg. pwm_reached s.fronts r unit reg;
 })
 
@@ -344,12 +344,12 @@ gpio_answer_owed : (p : GpioRegisters) (up : Up) (opens : Bool) → (eqb (p.owed
 gpio_answer_owed p up true e = rw e refl
 gpio_answer_owed p up false e = rw e refl
 
-pub gpio_hears : (p : GpioRegisters) (up : Option Up) → HearsAnswers p.owed up (heard_by_gpio p up).owed
+pub gpio_hears : (p : GpioRegisters) (up : Option Up) → HearsAnswers p.owed up (arrived_at_gpio p up).owed
 gpio_hears p None = record { still = λ z. z; answers = λ z. omega arith }
 gpio_hears p (Some up) = owed_by p.owed (gpio_arrived p up).owed up (eqb p.owed 0) up.done refl refl
     (λ o. rw o (gpio_open p up _ refl)) (λ o d. rw (o, d) (gpio_answer_owed p up _ refl)) (λ o d. rw (o, d) refl)
 
-pub pwm_hears : (p : PwmRegisters) (up : Option Up) → HearsAnswers p.owed up (heard_by_pwm p up).owed
+pub pwm_hears : (p : PwmRegisters) (up : Option Up) → HearsAnswers p.owed up (arrived_at_pwm p up).owed
 pwm_hears p None = record { still = λ z. z; answers = λ z. omega arith }
 pwm_hears p (Some up) = owed_by p.owed (pwm_arrived p up).owed up (eqb p.owed 0) up.done refl refl
     (λ o. pwm_open o _ refl) (λ o d. rw (o, d) refl) (λ o d. rw d refl)

@@ -29,30 +29,30 @@ use Rattle.chip_hub.specs.Units.{silent}
 
 -- 1. what arrives from the units reaches their fronts
 
-abbrev pub heard_by : SerialRegisters → Option Up → SerialRegisters
-heard_by front None = front
-heard_by front (Some up) = serial_arrived front up
+abbrev pub arrived_at : SerialRegisters → Option Up → SerialRegisters
+arrived_at front None = front
+arrived_at front (Some up) = serial_arrived front up
 
-abbrev pub heard_by_gpio : GpioRegisters → Option Up → GpioRegisters
-heard_by_gpio front None = front
-heard_by_gpio front (Some up) = gpio_arrived front up
+abbrev pub arrived_at_gpio : GpioRegisters → Option Up → GpioRegisters
+arrived_at_gpio front None = front
+arrived_at_gpio front (Some up) = gpio_arrived front up
 
-abbrev pub heard_by_pwm : PwmRegisters → Option Up → PwmRegisters
-heard_by_pwm front None = front
-heard_by_pwm front (Some up) = pwm_arrived front up
+abbrev pub arrived_at_pwm : PwmRegisters → Option Up → PwmRegisters
+arrived_at_pwm front None = front
+arrived_at_pwm front (Some up) = pwm_arrived front up
 
 -- the message of a unit among those that arrive
 abbrev pub arrival_of : ChipUnit → List (Option Up) → Option Up
 arrival_of unit ups = get_or ups (link_place unit) None
 
-abbrev pub heard : HubState → List (Option Up) → HubState
-heard s ups = record s {
+abbrev pub arrived : HubState → List (Option Up) → HubState
+arrived s ups = record s {
   fronts = record {
-    uart0 = heard_by s.fronts.uart0 (arrival_of Uart0 ups);
-    uart1 = heard_by s.fronts.uart1 (arrival_of Uart1 ups);
-    spi = heard_by s.fronts.spi (arrival_of Spi ups);
-    gpio = heard_by_gpio s.fronts.gpio (arrival_of Gpio ups);
-    pwm = heard_by_pwm s.fronts.pwm (arrival_of Pwm ups);
+    uart0 = arrived_at s.fronts.uart0 (arrival_of Uart0 ups);
+    uart1 = arrived_at s.fronts.uart1 (arrival_of Uart1 ups);
+    spi = arrived_at s.fronts.spi (arrival_of Spi ups);
+    gpio = arrived_at_gpio s.fronts.gpio (arrival_of Gpio ups);
+    pwm = arrived_at_pwm s.fronts.pwm (arrival_of Pwm ups);
   };
 }
 
@@ -146,7 +146,7 @@ served s seat wants = served_to (record s { arbiter = after_grant s.arbiter want
 -- one cycle, in these six steps
 unfoldable pub hub_cycle : HubState → Seat → ℕ → List (Option Up) → HubStep
 hub_cycle s seat now ups =
-    let with_arrivals = heard s ups in
+    let with_arrivals = arrived s ups in
     let at_time = timed with_arrivals in
     let after_core0 = turn0 at_time seat now in
     let after_core1 = turn1 after_core0 now in

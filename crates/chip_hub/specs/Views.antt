@@ -19,16 +19,16 @@ loaded_word (Ok word) = Some word
 loaded_word (Err fault) = None
 
 -- the word at an address, if it is that of a word of the memories
-abbrev pub word_at : HubState → ℕ → Option ℕ
-word_at s address = loaded_word (load_of s.memory address Word)
+abbrev pub word_view : HubState → ℕ → Option ℕ
+word_view s address = loaded_word (load_of s.memory address Word)
 
 -- a hart as a report shows it
 abbrev pub hart_view : HubState → ℕ → HartView
 hart_view s hart = if hart == 0 then view_of s.core0 else view_of s.core1
 
 -- a CSR of a hart, mip as the lines stand
-abbrev pub csr_at : HubState → ℕ → ℕ → Option ℕ
-csr_at s hart number = if hart == 0 then read_at s.core0.csrs number (mip_of s 0) else read_at s.core1.csrs number (mip_of s 1)
+abbrev pub csr_view : HubState → ℕ → ℕ → Option ℕ
+csr_view s hart number = if hart == 0 then read_at s.core0.csrs number (mip_of s 0) else read_at s.core1.csrs number (mip_of s 1)
 
 -- how core 0 began since the last reset: the monitor hands over in some cycle, or is still there
 abbrev pub monitor_view : Option ℕ → BootView

@@ -33,7 +33,7 @@ pub(crate) struct Access {
 }
 
 /// A load that gives this word.
-const fn loaded(word: u32) -> Access
+const fn gives(word: u32) -> Access
     ensures { result ≡ record { answer = Ok word; downs = silent } }
 {
     Access {
@@ -43,7 +43,7 @@ const fn loaded(word: u32) -> Access
 }
 
 /// A store that is done.
-const fn stored() -> Access
+const fn done() -> Access
     ensures { result ≡ record { answer = Ok 0; downs = silent } }
 {
     Access {
@@ -93,7 +93,7 @@ impl CoreComplex {
                 downs: SILENT,
             },
             Some(value) => match self.memory.store(request.addr, request.width, value) {
-                Ok(()) => stored(),
+                Ok(()) => done(),
                 Err(fault) => refused(fault),
             },
         }
@@ -106,10 +106,10 @@ impl CoreComplex {
     {
         let offset = offset_in(CLINT_SIZE, request);
         match request.store {
-            None => loaded(part_of_word(request, self.clint.load(offset))),
+            None => gives(part_of_word(request, self.clint.load(offset))),
             Some(value) => {
                 self.clint.store(offset, value);
-                stored()
+                done()
             }
         }
     }
@@ -121,10 +121,10 @@ impl CoreComplex {
     {
         let offset = offset_in(BLOCK_SIZE, request);
         match request.store {
-            None => loaded(part_of_word(request, self.mailbox.load(offset))),
+            None => gives(part_of_word(request, self.mailbox.load(offset))),
             Some(value) => {
                 self.mailbox.store(offset, value);
-                stored()
+                done()
             }
         }
     }
@@ -136,10 +136,10 @@ impl CoreComplex {
     {
         let reg = offset_in(BLOCK_SIZE, request) as u8;
         match request.store {
-            None => loaded(part_of_word(request, self.dma.load(reg))),
+            None => gives(part_of_word(request, self.dma.load(reg))),
             Some(value) => {
                 self.dma.store(reg, value);
-                stored()
+                done()
             }
         }
     }
@@ -174,8 +174,8 @@ impl CoreComplex {
         ensures dma { self.new.dma ≡ self.old.dma }
     {
         match request.store {
-            None => loaded(part_of_word(request, self.sysinfo(offset_in(BLOCK_SIZE, request)))),
-            Some(_) => stored(),
+            None => gives(part_of_word(request, self.sysinfo(offset_in(BLOCK_SIZE, request)))),
+            Some(_) => done(),
         }
     }
 

@@ -1,7 +1,7 @@
 //! What the core complex does in the steps of a cycle.
 ghost use Rattle.std.specs.Prelude.{◌≡◌, ◌<◌, ◌≤◌, ◌+◌, ◌^◌, ℕ};
 ghost use Rattle.chip_hub.specs.Access.{accessed};
-ghost use Rattle.chip_hub.specs.Cycle.{answered0, heard, served1, served2, timed, turn1};
+ghost use Rattle.chip_hub.specs.Cycle.{answered0, arrived, served1, served2, timed, turn1};
 ghost use Rattle.core_pair.specs.Core.{wanted_in};
 ghost use Rattle.core_pair.specs.Turn.{turned};
 ghost use Rattle.dma_unit.specs.DmaRegisters.{dma_wanted};
@@ -19,7 +19,7 @@ use soc_bus::Request;
 impl CoreComplex {
     /// What arrives from the units reaches their fronts.
     pub(crate) fn hear(&mut self, ups: &[Option<Up>; 7])
-        ensures { self.new ≡ heard self.old ups.now }
+        ensures { self.new ≡ arrived self.old ups.now }
     {
         if let Some(up) = ups[ChipUnit::Uart0.place()] {
             self.uart0.arrive(up);

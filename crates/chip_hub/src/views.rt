@@ -4,7 +4,7 @@ ghost use Rattle.std.specs.Int.{w32, to_le_bytes};
 ghost use Rattle.soc_bus.specs.Memory.{IsSize, held_by, place_of};
 ghost use Rattle.chip_hub.specs.Kept.{SeatStands};
 ghost use Rattle.chip_hub.specs.Seat.{Seat};
-ghost use Rattle.chip_hub.specs.Views.{boot_view, csr_at, hart_view, word_at};
+ghost use Rattle.chip_hub.specs.Views.{boot_view, csr_view, hart_view, word_view};
 
 use crate::hub::Hub;
 use chip_base::{BootView, HartView};
@@ -13,7 +13,7 @@ use soc_bus::Width;
 impl Hub {
     /// The word at an address. None exactly where the address isn't that of a word of IMEM or DMEM.
     pub fn word(&self, addr: u32) -> Option<u32>
-        ensures value { result ≡ word_at self.now.hub addr }
+        ensures value { result ≡ word_view self.now.hub addr }
         ensures bytes { IfSome result (λ w. IfSome (place_of self.now.hub.memory addr 4)
             (λ p. to_le_bytes w32 w ≡ slice_range (held_by self.now.hub.memory p.0) p.1 (p.1 + 4))) }
     {
@@ -51,7 +51,7 @@ impl Hub {
     /// The word of a CSR of a hart, mip as the lines stand now. None exactly where there is no such CSR.
     pub fn csr(&self, hart: u8, addr: u16) -> Option<u32>
         requires { hart < 2 }
-        ensures { result ≡ csr_at self.now.hub hart addr }
+        ensures { result ≡ csr_view self.now.hub hart addr }
     {
         if hart == 0 {
             self.complex.core0.csr(addr, self.complex.mip(0))

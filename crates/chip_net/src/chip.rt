@@ -3,7 +3,7 @@ ghost use Rattle.std.specs.Prelude.{◌≡◌, ℕ, ◌<◌, ◌≤◌, ◌+◌,
 ghost use Rattle.std.specs.Int.{w32, to_le_bytes};
 ghost use Rattle.chip_base.specs.Settings.{values_of};
 ghost use Rattle.chip_hub.specs.Start.{fits_in};
-ghost use Rattle.chip_hub.specs.Views.{boot_view, csr_at, hart_view, word_at};
+ghost use Rattle.chip_hub.specs.Views.{boot_view, csr_view, hart_view, word_view};
 ghost use Rattle.soc_bus.specs.Memory.{IsSize, held_by, place_of};
 ghost use Rattle.chip_whole.specs.Chip.{Board, ChipState, after, events_of, start, tick};
 ghost use Rattle.spi_flash.specs.Flash.{byte_of, flash_at};
@@ -136,7 +136,7 @@ impl Chip {
     /// The word at an address. None exactly where the address isn't that of a word of IMEM or DMEM.
     #[tactic(auto, unfolding(chip_whole::specs::Standing::ChipStands))]
     pub fn word(&self, addr: u32) -> Option<u32>
-        ensures value { (board : Board) (s : ChipState) → ⟦<Chip as Standing>⟧.stands board self.now s → result ≡ word_at s.hub addr }
+        ensures value { (board : Board) (s : ChipState) → ⟦<Chip as Standing>⟧.stands board self.now s → result ≡ word_view s.hub addr }
         ensures bytes { (board : Board) (s : ChipState) → ⟦<Chip as Standing>⟧.stands board self.now s → IfSome result (λ w. IfSome (place_of s.hub.memory addr 4)
             (λ p. to_le_bytes w32 w ≡ slice_range (held_by s.hub.memory p.0) p.1 (p.1 + 4))) }
     {
@@ -174,7 +174,7 @@ impl Chip {
     #[tactic(auto, unfolding(chip_whole::specs::Standing::ChipStands))]
     pub fn csr(&self, hart: u8, addr: u16) -> Option<u32>
         requires { hart < 2 }
-        ensures { (board : Board) (s : ChipState) → ⟦<Chip as Standing>⟧.stands board self.now s → result ≡ csr_at s.hub hart addr }
+        ensures { (board : Board) (s : ChipState) → ⟦<Chip as Standing>⟧.stands board self.now s → result ≡ csr_view s.hub hart addr }
     {
         self.hub.csr(hart, addr)
     }

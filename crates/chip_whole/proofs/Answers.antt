@@ -15,12 +15,12 @@ use Rattle.chip_whole.specs.Credits.{AnswersComing, count_on}
 use Rattle.chip_whole.proofs.Credits.{count_empty, count_more}
 
 -- a cycle of the front, its two lines and its unit
-pub answers_keep : (owed heard after : ℕ) (downs : List (Option Down)) (ups : List (Option Up)) (down : Option Down) (up : Option Up)
-    → 1 ≤ length downs → 1 ≤ length ups → HearsAnswers owed (link_first ups) heard → ServesAnswers heard down after
+pub answers_keep : (owed arrived after : ℕ) (downs : List (Option Down)) (ups : List (Option Up)) (down : Option Down) (up : Option Up)
+    → 1 ≤ length downs → 1 ≤ length ups → HearsAnswers owed (link_first ups) arrived → ServesAnswers arrived down after
     → done_in up ≡ reset_in (link_first downs) → AnswersComing owed downs ups → AnswersComing after (link_moved downs down) (link_moved ups up)
-answers_keep owed heard after [] ups down up l m h s u a = absurd (omega (arith, l))
-answers_keep owed heard after (d ∷ downs) [] down up l m h s u a = absurd (omega (arith, m))
-answers_keep owed heard after (d ∷ downs) (w ∷ ups) down up l m h s u a = by_owed owed refl
+answers_keep owed arrived after [] ups down up l m h s u a = absurd (omega (arith, l))
+answers_keep owed arrived after (d ∷ downs) [] down up l m h s u a = absurd (omega (arith, m))
+answers_keep owed arrived after (d ∷ downs) (w ∷ ups) down up l m h s u a = by_owed owed refl
   where
     resets : count_on reset_in (link_moved (d ∷ downs) down) ≡ count_on reset_in downs + reset_in down
     resets = count_more reset_in downs down
@@ -32,9 +32,9 @@ answers_keep owed heard after (d ∷ downs) (w ∷ ups) down up l m h s u a = by
     coming = a
 
     by_owed : (n : ℕ) → owed ≡ n → AnswersComing after (link_moved (d ∷ downs) down) (link_moved (w ∷ ups) up)
-    by_owed zero e = let none : heard ≡ 0 = h.still e in omega (arith, none, coming, e, resets, dones, s.owed, s.no_reset, u)
+    by_owed zero e = let none : arrived ≡ 0 = h.still e in omega (arith, none, coming, e, resets, dones, s.owed, s.no_reset, u)
     by_owed (suc n) e =
-        let left : heard + done_in w ≡ owed = h.answers (omega (arith, e)) in
+        let left : arrived + done_in w ≡ owed = h.answers (omega (arith, e)) in
         omega (arith, left, coming, resets, dones, s.owed, s.no_reset, u)
 
 -- nothing is on its way

@@ -4,8 +4,8 @@ use Rattle.chip_base.specs.Entries.{CountsEntries}
 use Rattle.chip_base.specs.Messages.{done_in, reset_in}
 use Rattle.chip_base.specs.declared.message.Down.{Down}
 use Rattle.chip_base.specs.declared.message.Up.{Up}
-use Rattle.chip_hub.specs.Cycle.{heard_by}
-use Rattle.chip_hub.proofs.Fronts.{HearsAnswers, ServesAnswers, ServesPort}
+use Rattle.chip_hub.specs.Cycle.{arrived_at}
+use Rattle.chip_hub.proofs.Fronts.{HearsAnswers, ServesAnswers, ServesSerial}
 use Rattle.soc_words.specs.Link.{link_first}
 use Rattle.unit_fronts.specs.SerialRegisters.{SerialRegisters, serial_front_reset}
 use Rattle.chip_whole.specs.Credits.{AwaitsUnit, HasPlaces, ServesUnit}
@@ -19,7 +19,7 @@ places_after : {S : Type 0} (cycle : CycleOf S) (j : Joined S) (now : ℕ) (sent
 places_after cycle j now sent h = record { down = moved_some j.down sent h.down; up = moved_some j.up (given_by cycle j now).up h.up }
 
 pub serves_after : {S : Type 0} (takes : ℕ → Bool) (entries : S → ℕ) (cycle : CycleOf S) (p new : SerialRegisters) (j : Joined S) (now : ℕ) (sent : Option Down)
-    → ServesPort takes (heard_by p (link_first j.up)) sent new
+    → ServesSerial takes (arrived_at p (link_first j.up)) sent new
     → ((s : S) (down : Option Down) → CountsEntries takes (entries s) down (entries (cycle s now down).unit) (cycle s now down).up)
     → ServesUnit takes p entries j → ServesUnit takes new entries (joined_after cycle j now sent)
 serves_after takes entries cycle p new j now sent s u h = record {
@@ -27,13 +27,13 @@ serves_after takes entries cycle p new j now sent s u h = record {
   sixteen = cycle_keeps takes p j.down (entries j.unit) j.up sent new _ _ h.places.down h.places.up s (u j.unit (link_first j.down)) h.sixteen;
 }
 
-pub awaits_after : {S : Type 0} (cycle : CycleOf S) (owed heard new : ℕ) (j : Joined S) (now : ℕ) (sent : Option Down)
-    → HearsAnswers owed (link_first j.up) heard → ServesAnswers heard sent new
+pub awaits_after : {S : Type 0} (cycle : CycleOf S) (owed arrived new : ℕ) (j : Joined S) (now : ℕ) (sent : Option Down)
+    → HearsAnswers owed (link_first j.up) arrived → ServesAnswers arrived sent new
     → ((s : S) (down : Option Down) → done_in (cycle s now down).up ≡ reset_in down)
     → AwaitsUnit owed j → AwaitsUnit new (joined_after cycle j now sent)
-awaits_after cycle owed heard new j now sent s v u h = record {
+awaits_after cycle owed arrived new j now sent s v u h = record {
   places = places_after cycle j now sent h.places;
-  answers = answers_keep owed heard new j.down j.up sent _ h.places.down h.places.up s v (u j.unit (link_first j.down)) h.answers;
+  answers = answers_keep owed arrived new j.down j.up sent _ h.places.down h.places.up s v (u j.unit (link_first j.down)) h.answers;
 }
 
 places_start : {S : Type 0} (unit : S) (delay : ℕ) → 1 ≤ delay → HasPlaces (joined_start unit delay)
