@@ -39,6 +39,7 @@ pub(crate) fn joined<U: Drop>(
 }
 
 /// One cycle of a UART and its links, in which this was sent down.
+#[inline(always)]
 pub(crate) fn step_uart(lane: &mut Lane<Uart>, now: Cycle, sent: Option<Down>) -> Option<Event>
     requires { lane.old.links.cycle + 4096 < 2 ^ 64 }
     ensures joined { joined_of lane.new.unit lane.new.links ≡ joined_after uart_cycle (joined_of lane.old.unit lane.old.links) now sent }
@@ -51,6 +52,7 @@ pub(crate) fn step_uart(lane: &mut Lane<Uart>, now: Cycle, sent: Option<Down>) -
 }
 
 /// One cycle of the SPI unit and its links, in which this was sent down. It tells nothing.
+#[inline(always)]
 pub(crate) fn step_spi(lane: &mut Lane<Spi>, now: Cycle, sent: Option<Down>)
     requires { lane.old.links.cycle + 4096 < 2 ^ 64 }
     ensures joined { joined_of lane.new.unit lane.new.links ≡ joined_after spi_cycle (joined_of lane.old.unit lane.old.links) now sent }
@@ -61,6 +63,7 @@ pub(crate) fn step_spi(lane: &mut Lane<Spi>, now: Cycle, sent: Option<Down>)
 }
 
 /// One cycle of the GPIO unit and its links, in which this was sent down.
+#[inline(always)]
 pub(crate) fn step_gpio(lane: &mut Lane<Gpio>, now: Cycle, sent: Option<Down>) -> Option<Event>
     requires { lane.old.links.cycle + 4096 < 2 ^ 64 }
     ensures joined { joined_of lane.new.unit lane.new.links ≡ joined_after gpio_cycle (joined_of lane.old.unit lane.old.links) now sent }
@@ -73,6 +76,7 @@ pub(crate) fn step_gpio(lane: &mut Lane<Gpio>, now: Cycle, sent: Option<Down>) -
 }
 
 /// One cycle of the PWM unit and its links, in which this was sent down.
+#[inline(always)]
 pub(crate) fn step_pwm(lane: &mut Lane<Pwm>, now: Cycle, sent: Option<Down>) -> Option<Event>
     requires { lane.old.links.cycle + 4096 < 2 ^ 64 }
     ensures joined { joined_of lane.new.unit lane.new.links ≡ joined_after pwm_cycle (joined_of lane.old.unit lane.old.links) now sent }
