@@ -1,5 +1,6 @@
 //! The three ways in which core 0 begins, over files in memory.
 
+use crate::given::{add_file, words_of};
 use crate::sessions::{
     BAD_SUM_AND_SIZE, CUT_SHORT, DIRECT_RUN, NO_SIGNATURE, SIGNATURE_REFUSED, SUM_AND_SIZE_REFUSED,
     UPLOAD, UPLOADED,
@@ -13,26 +14,6 @@ use std::thread::Threads;
 const IMAGE: &[u8] = &[
     0xfe, 0xca, 0x88, 0x47, 0x08, 0, 0, 0, 0xfe, 0xfe, 0xaf, 0xff, 0x93, 0, 0x50, 0, 0x6f, 0, 0, 0,
 ];
-
-fn words_of(alloc: Global, text: &str) -> Result<Vec<String>, AllocError> {
-    let mut words = Vec::new(alloc);
-    for word in text.split(' ') {
-        words.push(String::from_str(alloc, word)?)?;
-    }
-    Ok(words)
-}
-
-fn add_file(
-    alloc: Global,
-    files: &mut Vec<(String, Vec<u8>)>,
-    name: &str,
-    bytes: &[u8],
-) -> Result<(), AllocError> {
-    let name = String::from_str(alloc, name)?;
-    let bytes = Vec::from_slice(alloc, bytes)?;
-    files.push((name, bytes))?;
-    Ok(())
-}
 
 fn shelf_of(alloc: Global, image: &[u8], script: &str) -> Result<MemShelf, AllocError> {
     let mut files = Vec::new(alloc);

@@ -1,5 +1,6 @@
 //! Images that the top call makes and checks, over files in memory.
 
+use crate::given::{add_file, words_of};
 use crate::top::bench;
 use bench_shelf::{MemShelf, MemSink};
 use std::alloc::{AllocError, Global};
@@ -37,26 +38,6 @@ const FIVE: [u8; 20] = [
 
 /// What `p.img` holds before.
 const OLD: [u8; 3] = *b"old";
-
-fn words_of(alloc: Global, text: &str) -> Result<Vec<String>, AllocError> {
-    let mut words = Vec::new(alloc);
-    for word in text.split(' ') {
-        words.push(String::from_str(alloc, word)?)?;
-    }
-    Ok(words)
-}
-
-fn add_file(
-    alloc: Global,
-    files: &mut Vec<(String, Vec<u8>)>,
-    name: &str,
-    bytes: &[u8],
-) -> Result<(), AllocError> {
-    let name = String::from_str(alloc, name)?;
-    let bytes = Vec::from_slice(alloc, bytes)?;
-    files.push((name, bytes))?;
-    Ok(())
-}
 
 fn shelf_of(alloc: Global, case: &Case<'_>) -> Result<MemShelf, AllocError> {
     let mut files = Vec::new(alloc);

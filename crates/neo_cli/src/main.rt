@@ -4,6 +4,8 @@
 #[cfg(test)]
 mod boots;
 #[cfg(test)]
+mod given;
+#[cfg(test)]
 mod images;
 #[cfg(test)]
 mod programs;

@@ -1,5 +1,6 @@
 //! Runs of the top call over files and text in memory.
 
+use crate::given::{add_file, words_of};
 use crate::programs::{
     CLEAR_PENDING, CLEARED_PENDING, COPIED_NOTHING, COPIED_TWO, COPY_NOWHERE, COPY_TWO, EBREAK,
     EBREAK_START, EBREAK_TRAPS, EMPTY, EMPTY_START, EMPTY_TRAPS, HEAR, HEAR_HEARD, HEAR_QUICK,
@@ -25,14 +26,6 @@ struct Case<'a> {
     failing_put: u64,
 }
 
-fn words_of(alloc: Global, text: &str) -> Result<Vec<String>, AllocError> {
-    let mut words = Vec::new(alloc);
-    for word in text.split(' ') {
-        words.push(String::from_str(alloc, word)?)?;
-    }
-    Ok(words)
-}
-
 /// The bytes of words, low byte first.
 fn bytes_of(alloc: Global, words: &[u32]) -> Result<Vec<u8>, AllocError> {
     let mut bytes = Vec::new(alloc);
@@ -44,18 +37,6 @@ fn bytes_of(alloc: Global, words: &[u32]) -> Result<Vec<u8>, AllocError> {
 
 fn zero_bytes(alloc: Global, count: usize) -> Result<Vec<u8>, AllocError> {
     vec![in alloc; 0u8; count]
-}
-
-fn add_file(
-    alloc: Global,
-    files: &mut Vec<(String, Vec<u8>)>,
-    name: &str,
-    bytes: &[u8],
-) -> Result<(), AllocError> {
-    let name = String::from_str(alloc, name)?;
-    let bytes = Vec::from_slice(alloc, bytes)?;
-    files.push((name, bytes))?;
-    Ok(())
 }
 
 fn files_of(
