@@ -1,5 +1,5 @@
 -- The chip's units and the parts of its hub, a row each: a definition. What numbers, names or places one of them reads its row.
-use Rattle.std.specs.Prelude.{ℕ, ◌+◌, ◌-◌, ◌==◌, Bool, List, [], ◌∷◌, Option, Some, None, codes, get_or, map}
+use Rattle.std.specs.Prelude.{ℕ, ◌+◌, ◌-◌, ◌%◌, ◌==◌, Bool, List, [], ◌∷◌, Option, Some, None, codes, get_or, map}
 use Rattle.std.specs.List.{find, list_any, position_from}
 use Rattle.std.specs.Str.{bytes_eq}
 use Rattle.chip_base.specs.Bits.{bit_if}
@@ -37,14 +37,16 @@ all_units = Uart0 ∷ Uart1 ∷ Spi ∷ Gpio ∷ Pwm ∷ Slink ∷ Wdt ∷ []
 -- a part of the hub that has registers: it has no links, and no number
 pub record PartRow : Type 0 where
   pub base : ℕ
+  -- how many bytes of the map it has; its base is a multiple of them
+  pub size : ℕ
   pub offsets : List ℕ
   pub fast_line : Option ℕ
 
 abbrev pub part_row : HubPart → PartRow
-part_row Dma = record { base = 0xffed0000; offsets = 0 ∷ 4 ∷ 8 ∷ 12 ∷ 16 ∷ []; fast_line = Some 0 }
-part_row Clint = record { base = 0xfff40000; offsets = 0 ∷ 4 ∷ 0x4000 ∷ 0x4004 ∷ 0x4008 ∷ 0x400c ∷ 0xbff8 ∷ 0xbffc ∷ []; fast_line = None }
-part_row Sysinfo = record { base = 0xfffe0000; offsets = 0 ∷ 4 ∷ 8 ∷ 12 ∷ []; fast_line = None }
-part_row Mailbox = record { base = 0xfffe0100; offsets = 0 ∷ 4 ∷ []; fast_line = None }
+part_row Dma = record { base = 0xffed0000; size = 0x100; offsets = 0 ∷ 4 ∷ 8 ∷ 12 ∷ 16 ∷ []; fast_line = Some 0 }
+part_row Clint = record { base = 0xfff40000; size = 0x10000; offsets = 0 ∷ 4 ∷ 0x4000 ∷ 0x4004 ∷ 0x4008 ∷ 0x400c ∷ 0xbff8 ∷ 0xbffc ∷ []; fast_line = None }
+part_row Sysinfo = record { base = 0xfffe0000; size = 0x100; offsets = 0 ∷ 4 ∷ 8 ∷ 12 ∷ []; fast_line = None }
+part_row Mailbox = record { base = 0xfffe0100; size = 0x100; offsets = 0 ∷ 4 ∷ []; fast_line = None }
 
 abbrev pub all_parts : List HubPart
 all_parts = Dma ∷ Clint ∷ Sysinfo ∷ Mailbox ∷ []
@@ -60,6 +62,10 @@ unit_has unit offset = is_among (unit_row unit).offsets offset
 -- the part has a register at this offset
 abbrev pub part_has : HubPart → ℕ → Bool
 part_has part offset = is_among (part_row part).offsets offset
+
+-- the offset of an address in the part that has it
+abbrev pub part_offset : HubPart → ℕ → ℕ
+part_offset part address = address % (part_row part).size
 
 -- the unit's place among the seven links, from 0
 abbrev pub link_place : ChipUnit → ℕ

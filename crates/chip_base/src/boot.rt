@@ -3,7 +3,7 @@
 use crate::cycle::Cycle;
 
 /// How core 0 begins after power-on and after each reset.
-#[derive(Clone, Copy, Debug, PartialEq, Eq)]
+#[derive(Clone, Copy)]
 pub enum Boot {
     /// The boot monitor waits for an image on UART0.
     Monitor,

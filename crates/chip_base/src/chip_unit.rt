@@ -186,6 +186,17 @@ impl HubPart {
         }
     }
 
+    /// How many bytes of the map the part has. The address at which its registers begin is a multiple of them.
+    pub const fn size(self) -> u32
+        ensures value { result ≡ (part_row self).size }
+        ensures from { 0 < result }
+    {
+        match self {
+            HubPart::Clint => 0x1_0000,
+            _ => 0x100,
+        }
+    }
+
     const fn offsets(self) -> &'static [u32]
         ensures { result.now ≡ (part_row self).offsets }
     {

@@ -7,7 +7,7 @@ ghost use Rattle.chip_base.specs.Placing.{none_yet, put, put_all, placed};
 use crate::chip_unit::lane_named;
 
 /// For each of the eight lanes (hub, uart0, uart1, spi, gpio, pwm, slink, wdt) the number of its group.
-#[derive(Clone, Copy, Debug, PartialEq, Eq)]
+#[derive(Clone, Copy)]
 pub struct Groups {
     pub of: [u8; 8],
 }

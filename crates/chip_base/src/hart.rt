@@ -20,7 +20,7 @@ pub enum PhaseWord {
 }
 
 /// A hart as a report shows it: its phase, pc, number of retired instructions (modulo 2^64) and registers x0 to x31.
-#[derive(Clone, Copy, Debug, PartialEq, Eq)]
+#[derive(Clone, Copy)]
 pub struct HartView {
     pub phase: PhaseWord,
     pub pc: u32,
@@ -30,7 +30,7 @@ pub struct HartView {
 
 /// An issued instruction: its cycle, the number of its hart, its address and its word. A compressed instruction's word is its
 /// parcel with zeros above.
-#[derive(Clone, Copy, Debug, PartialEq, Eq)]
+#[derive(Clone, Copy, PartialEq, Eq)]
 pub struct IssueRecord {
     pub cycle: Cycle,
     pub hart: u8,

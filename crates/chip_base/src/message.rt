@@ -45,4 +45,10 @@ impl Up {
         credit: true,
         ..Up::SILENT
     };
+
+    /// Says that the watchdog fired.
+    pub const FIRE: Up = Up {
+        fire: true,
+        ..Up::SILENT
+    };
 }

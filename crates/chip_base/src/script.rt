@@ -7,7 +7,7 @@ use crate::valid::{are_in_order, are_steps};
 use std::marker::Model;
 
 /// Bytes that are owned, seen as their list.
-#[derive(Debug, Drop)]
+#[derive(Drop)]
 pub struct Bytes {
     items: Vec<u8>,
 }
@@ -37,7 +37,7 @@ impl Bytes {
 }
 
 /// An input pin (0 to 31) takes a level in a cycle.
-#[derive(Clone, Copy, Debug, PartialEq, Eq)]
+#[derive(Clone, Copy)]
 pub struct PinStep {
     pub cycle: Cycle,
     pub pin: u8,
@@ -45,7 +45,7 @@ pub struct PinStep {
 }
 
 /// One step of what a UART receives.
-#[derive(Debug, Drop)]
+#[derive(Drop)]
 pub enum UartStep {
     /// Wait until this cycle.
     At(Cycle),
@@ -58,7 +58,7 @@ pub enum UartStep {
 }
 
 /// Pin changes, whose cycles don't fall and are at most 4,294,967,295.
-#[derive(Debug, Drop)]
+#[derive(Drop)]
 pub struct Pins {
     items: Vec<PinStep>,
 }
@@ -100,7 +100,7 @@ impl Pins {
 }
 
 /// The steps of a UART's receiver, in their order.
-#[derive(Debug, Drop)]
+#[derive(Drop)]
 pub struct Steps0 {
     items: Vec<UartStep>,
 }
@@ -143,7 +143,7 @@ impl Steps0 {
 }
 
 /// What a script does: the pin changes, and the steps of each UART.
-#[derive(Debug, Drop)]
+#[derive(Drop)]
 pub struct Script {
     pub pins: Pins,
     pub uart0: Steps0,

@@ -8,7 +8,7 @@ use crate::chip_unit::standard_delays;
 /// The settings of a chip: the clock in hertz (1 to 4,294,967,295), the sizes of IMEM and DMEM in bytes (multiples of 4,096 from 4,096
 /// to 1,048,576), the prescaler's number (0 to 7) and the baud divisor (0 to 1,023) that the boot monitor gives UART0, whether a flash is
 /// fitted, and the delay of each unit's links in cycles (1 to 4,096; uart0, uart1, spi, gpio, pwm, slink, wdt).
-#[derive(Clone, Copy, Debug, Drop, PartialEq)]
+#[derive(Clone, Copy, Drop, PartialEq)]
 pub struct Setup {
     pub clock: u32,
     pub imem: u32,
