@@ -11,7 +11,7 @@ use Rattle.chip_base.specs.declared.boot.Boot.{Boot}
 use Rattle.chip_base.specs.declared.script.Script.{Script}
 use Rattle.image_tool.specs.declared.faults.ImageFault.{ImageFault}
 use Rattle.script_text.specs.ChipFile.{chip_of}
-use Rattle.script_text.specs.Faults.{Fault as AtKey, name_of}
+use Rattle.script_text.specs.Faults.{KeyFaultAt as AtKey, faulty_key}
 use Rattle.script_text.specs.ScriptFile.{script_of}
 use Rattle.script_text.specs.declared.chip.KeyFault.{KeyFault}
 use Rattle.script_text.specs.declared.chip.KeyFault.TheVariants.{Key, Range}
@@ -38,7 +38,7 @@ key_ends Range name = refl
 settings_of_ends : (o : Option (Result Values AtKey)) → EndsBoth Any (HasStatus 6) (settings_of o)
 settings_of_ends None = refl
 settings_of_ends (Some (Ok v)) = tt
-settings_of_ends (Some (Err f)) = key_ends f.kind (name_of f)
+settings_of_ends (Some (Err f)) = key_ends f.kind (faulty_key f)
 
 settings_in_ends : (t : Bool) (o : Option (Result Values AtKey)) → EndsBoth Any (HasStatus 6) (cond t (settings_of o) (Err toml_refusal))
 settings_in_ends true o = settings_of_ends o

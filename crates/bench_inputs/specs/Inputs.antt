@@ -11,7 +11,7 @@ use Rattle.image_tool.specs.Image.{image_of, padded}
 use Rattle.image_tool.specs.declared.faults.ImageFault.{ImageFault}
 use Rattle.image_tool.specs.declared.faults.ImageFault.TheVariants.{Size}
 use Rattle.script_text.specs.ChipFile.{chip_of}
-use Rattle.script_text.specs.Faults.{Fault as AtKey, name_of}
+use Rattle.script_text.specs.Faults.{KeyFaultAt as AtKey, faulty_key}
 use Rattle.script_text.specs.ScriptFile.{empty, script_of}
 use Rattle.script_text.specs.declared.script_fault.ScriptFault.{ScriptFault}
 use Rattle.bench_inputs.specs.Lines.{image_refusal, key_refusal, line_refusal, toml_refusal}
@@ -19,7 +19,7 @@ use Rattle.bench_inputs.specs.Lines.{image_refusal, key_refusal, line_refusal, t
 abbrev pub settings_of : Option (Result Values AtKey) → Result Values Refusal
 settings_of None = Err toml_refusal
 settings_of (Some (Ok v)) = Ok v
-settings_of (Some (Err fault)) = Err (key_refusal fault.kind (name_of fault))
+settings_of (Some (Err fault)) = Err (key_refusal fault.kind (faulty_key fault))
 
 -- a chip file must be a document in UTF-8, and have no fault at a key
 abbrev pub settings_in : List ℕ → Result Values Refusal

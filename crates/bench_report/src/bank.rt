@@ -7,7 +7,7 @@ use chip_net::Chip;
 use chip_whole::Standing;
 
 /// One of the two memories.
-#[derive(Clone, Copy, Debug, PartialEq, Eq)]
+#[derive(Clone, Copy)]
 pub enum Bank {
     Imem,
     Dmem,

@@ -5,7 +5,7 @@ use Rattle.std.specs.Option.{option_and_then}
 use mathlib.Core.Bool.{not}
 use Rattle.csr_file.proofs.Laws.{write_leaves_mcycle}
 use Rattle.csr_file.specs.State.{CsrsState}
-use Rattle.csr_file.specs.Table.{csr_at, read_at, row_of, writable, written}
+use Rattle.csr_file.specs.Table.{after_write, csr_at, csr_row, read_at, writable}
 use Rattle.csr_file.specs.Traps.{after_tick, pending_in, returned, trapped, wakes_in}
 use Rattle.csr_file.specs.declared.names.Csr.{Csr}
 use Rattle.csr_file.specs.declared.names.Csr.TheVariants.{Mcycle, Mcycleh}
@@ -134,18 +134,18 @@ complete_leaves : (h : HartState) (rd value next cycles : ℕ) → (completes h 
 unfolding completed
 complete_leaves h rd value next cycles = refl
 
-csr_leaves : (h : HartState) (i : Instr) (word next : ℕ) (o : Option ℕ) → i.csr ≢ (row_of Mcycle).number → i.csr ≢ (row_of Mcycleh).number → (csr_done h i word next o).hart.csrs.mcycle ≡ h.csrs.mcycle
+csr_leaves : (h : HartState) (i : Instr) (word next : ℕ) (o : Option ℕ) → i.csr ≢ (csr_row Mcycle).number → i.csr ≢ (csr_row Mcycleh).number → (csr_done h i word next o).hart.csrs.mcycle ≡ h.csrs.mcycle
 csr_leaves h i word next None low_apart high_apart = trap_leaves h word
 csr_leaves h i word next (Some old) low_apart high_apart =
     let value = csr_word i.op old (csr_operand h i) in
-    let s = written h.csrs i.csr value in
+    let s = after_write h.csrs i.csr value in
     choice_leaves h.csrs.mcycle (csr_writes i) (csr_written h i word next old) (retires h i.rd old next (cycles i))
     (choice_leaves h.csrs.mcycle (writable i.csr) (completes (record h { csrs = counted s i.csr }) i.rd old next (cycles i)) (illegal h word)
     (complete_leaves (record h { csrs = counted s i.csr }) i.rd old next (cycles i) ∙ counted_leaves s (csr_at i.csr) ∙ write_leaves_mcycle h.csrs i.csr value low_apart high_apart)
     (trap_leaves h word))
     (retire_leaves h i.rd old next (cycles i))
 
-exec_leaves : (h : HartState) (i : Instr) (word next mip : ℕ) (op : Op) → i.csr ≢ (row_of Mcycle).number → i.csr ≢ (row_of Mcycleh).number → (exec h i word next mip op).hart.csrs.mcycle ≡ h.csrs.mcycle
+exec_leaves : (h : HartState) (i : Instr) (word next mip : ℕ) (op : Op) → i.csr ≢ (csr_row Mcycle).number → i.csr ≢ (csr_row Mcycleh).number → (exec h i word next mip op).hart.csrs.mcycle ≡ h.csrs.mcycle
 unfolding retired completed entered trapped returned
 exec_leaves h i word next mip Csrrw low_apart high_apart = csr_leaves h i word next (read_at h.csrs i.csr mip) low_apart high_apart
 exec_leaves h i word next mip Csrrs low_apart high_apart = csr_leaves h i word next (read_at h.csrs i.csr mip) low_apart high_apart
@@ -155,7 +155,7 @@ exec_leaves h i word next mip Csrrsi low_apart high_apart = csr_leaves h i word 
 exec_leaves h i word next mip Csrrci low_apart high_apart = csr_leaves h i word next (read_at h.csrs i.csr mip) low_apart high_apart
 exec_leaves h i word next mip _ low_apart high_apart = refl
 
-instr_leaves : (c : CoreState) (o : Option Instr) (word length mip : ℕ) → IfSome o (λ i. (i.csr ≢ (row_of Mcycle).number) × (i.csr ≢ (row_of Mcycleh).number)) → (executed c o word length mip).csrs.mcycle ≡ c.csrs.mcycle
+instr_leaves : (c : CoreState) (o : Option Instr) (word length mip : ℕ) → IfSome o (λ i. (i.csr ≢ (csr_row Mcycle).number) × (i.csr ≢ (csr_row Mcycleh).number)) → (executed c o word length mip).csrs.mcycle ≡ c.csrs.mcycle
 unfolding executed
 instr_leaves c None word length mip h = trap_leaves (hart_of c) word
 instr_leaves c (Some i) word length mip h = exec_leaves (hart_of c) i word (wrapped_sum c.pc length) mip i.op h.0 h.1

@@ -9,7 +9,7 @@ use Rattle.rv_exec.specs.Alu.{alu_of, is_alu_immediate, is_branch, taken_at}
 use Rattle.rv_exec.specs.Cost.{cost_of}
 use Rattle.csr_file.specs.Causes.{cause_of}
 use Rattle.csr_file.specs.State.{CsrsState}
-use Rattle.csr_file.specs.Table.{csr_at, read_at, written, writable}
+use Rattle.csr_file.specs.Table.{csr_at, read_at, after_write, writable}
 use Rattle.csr_file.specs.Traps.{after_retire, returned}
 use Rattle.csr_file.specs.declared.causes.Exception.TheVariants.{IllegalInstruction, Breakpoint, EnvironmentCall}
 use Rattle.csr_file.specs.declared.names.Csr.{Csr}
@@ -65,7 +65,7 @@ illegal h word = traps h (cause_of IllegalInstruction) word
 abbrev pub csr_written : HartState → Instr → ℕ → ℕ → ℕ → Outcome
 csr_written h i word next old =
     if writable i.csr then
-    completes (record h { csrs = counted (written h.csrs i.csr (csr_word i.op old (csr_operand h i))) i.csr }) i.rd old next (cycles i)
+    completes (record h { csrs = counted (after_write h.csrs i.csr (csr_word i.op old (csr_operand h i))) i.csr }) i.rd old next (cycles i)
     else illegal h word
 
 -- a CSR row, by what a read of its CSR gives; it is illegal where there is no such CSR

@@ -10,7 +10,7 @@ use std::marker::Model;
 /// For each hart the bit of its software interrupt and the time of its timer interrupt, and the time in cycles. The registers
 /// are words: msip0 at offset 0 and msip1 at 4, mtimecmp0 at 4000 and 4004 (hexadecimal), mtimecmp1 at 4008 and 400c, and mtime
 /// at bff8 and bffc, each time the low word first.
-#[derive(Debug, Drop)]
+#[derive(Drop)]
 pub struct Clint {
     msip0: bool,
     msip1: bool,

@@ -5,7 +5,7 @@ ghost use Rattle.core_pair.specs.Fetch.{half_at, fetched_at};
 use soc_bus::{Memory, Width};
 
 /// What stands at an address.
-#[derive(Clone, Copy, Debug, PartialEq, Eq)]
+#[derive(Clone, Copy)]
 pub enum Fetched {
     /// No memory has the half at this address.
     Absent(u32),

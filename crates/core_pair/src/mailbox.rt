@@ -7,7 +7,7 @@ ghost use Rattle.core_pair.specs.Mailbox.{mailbox_stored, mailbox_word, reset_ma
 use std::marker::Model;
 
 /// Two words: where core 1 begins, at offset 0, and what its x2 holds then, at offset 4.
-#[derive(Debug, Drop)]
+#[derive(Drop)]
 pub struct Mailbox {
     pc: u32,
     sp: u32,
@@ -27,6 +27,20 @@ impl Mailbox {
         ensures { result ≡ reset_mailbox }
     {
         Mailbox { pc: 0, sp: 0 }
+    }
+
+    /// Where core 1 begins.
+    pub fn pc(&self) -> u32
+        ensures { result ≡ self.now.pc }
+    {
+        self.pc
+    }
+
+    /// What core 1's x2 holds as it begins.
+    pub fn sp(&self) -> u32
+        ensures { result ≡ self.now.sp }
+    {
+        self.sp
     }
 
     /// The word at an offset, in bytes.

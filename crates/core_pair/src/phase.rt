@@ -3,7 +3,7 @@
 use soc_bus::Request;
 
 /// What a core is doing.
-#[derive(Clone, Copy, Debug, PartialEq, Eq)]
+#[derive(Clone, Copy)]
 pub enum Phase {
     /// It is busy for so many more turns, and then acts.
     Run(u32),
@@ -18,7 +18,7 @@ pub enum Phase {
 }
 
 /// What a core keeps of a load or store until its grant.
-#[derive(Clone, Copy, Debug, PartialEq, Eq)]
+#[derive(Clone, Copy)]
 pub struct Awaited {
     /// The register that takes the loaded value, below 32; 0 at a store.
     pub rd: u8,

@@ -3,7 +3,7 @@ use Rattle.std.proofs.Common.{◌≡◌, ℕ, ◌%◌, ◌/◌, ◌*◌, ◌^◌
 use Rattle.std.specs.Int.Bits.{and_self}
 use Rattle.std.proofs.lemmas.Nat.Bits.{bit_at_or, bit_at_and, same_from_bits}
 use Rattle.csr_file.specs.Table.{IsKeptBy}
-use Rattle.csr_file.specs.Traps.{status}
+use Rattle.csr_file.specs.Traps.{mstatus_with}
 use Rattle.csr_file.specs.declared.names.Csr.TheVariants.{Mstatus}
 use Rattle.std.specs.Int.{bit_at}
 use Rattle.std.proofs.lemmas.Nat.{and_assoc, and_mod, and_le_r}
@@ -21,7 +21,7 @@ pub beside_twice : (value mask ones : ℕ) → bit_or (bit_and (bit_or (bit_and 
 beside_twice value mask ones = same_from_bits _ _ (both_kept value mask ones)
 
 -- what a trap and a return make of mstatus
-pub status_fixed : (mie mpie : Bool) → IsKeptBy Mstatus (status (if mie then 1 else 0) (if mpie then 1 else 0))
+pub status_fixed : (mie mpie : Bool) → IsKeptBy Mstatus (mstatus_with (if mie then 1 else 0) (if mpie then 1 else 0))
 status_fixed true true = refl
 status_fixed true false = refl
 status_fixed false true = refl

@@ -5,7 +5,7 @@ use Rattle.std.proofs.Math.Nat.{min-zero}
 use Rattle.std.specs.Int.{bit_at}
 use Rattle.std.specs.List.{find, list_any}
 use Rattle.std.proofs.lemmas.Nat.Bits.{bit_at_and, bit_at-lt, bit_at-zero, bit_at_above, same_from_bits}
-use Rattle.csr_file.specs.Traps.{order, first_cause, pending_in, enabled}
+use Rattle.csr_file.specs.Traps.{interrupt_order, first_cause, pending_in, enabled}
 use Rattle.csr_file.specs.Causes.{interrupt_cause}
 use Rattle.csr_file.specs.State.{CsrsState}
 use Rattle.std.specs.Option.{option_map}
@@ -23,7 +23,7 @@ at_below p (suc n) i h less = grind (arith, at_below p n i)
 
 -- each bit that mie may have is the bit of an interrupt
 is_listed : ℕ → Bool
-is_listed i = (bit_at 0xffff0888 i == 0) || list_any (λ n. n == i) order
+is_listed i = (bit_at 0xffff0888 i == 0) || list_any (λ n. n == i) interrupt_order
 
 every_bit : all_below is_listed 32 ≡ true
 unfolding all_below is_listed
@@ -43,19 +43,19 @@ masked_bit ready i inside clear =
 zero_bit : (b : ℕ) → b < 2 → (b == 1) ≡ false → b ≡ 0
 zero_bit b bound h = grind arith
 
-listed_bit : (ready i : ℕ) → find (λ n. bit_at ready n == 1) order ≡ None → bit_and ready 0xffff0888 ≡ ready → is_listed i ≡ true → bit_at ready i ≡ 0
+listed_bit : (ready i : ℕ) → find (λ n. bit_at ready n == 1) interrupt_order ≡ None → bit_and ready 0xffff0888 ≡ ready → is_listed i ≡ true → bit_at ready i ≡ 0
 unfolding is_listed
 listed_bit ready i none inside h =
-    elim (or_cases (bit_at 0xffff0888 i == 0) (list_any (λ n. n == i) order) h) [
+    elim (or_cases (bit_at 0xffff0888 i == 0) (list_any (λ n. n == i) interrupt_order) h) [
       | inl clear ↦ masked_bit ready i inside (eqb-true (bit_at 0xffff0888 i) 0 clear)
-      | inr listed ↦ zero_bit (bit_at ready i) (bit_at-lt ready i) (unset ready i order none listed)
+      | inr listed ↦ zero_bit (bit_at ready i) (bit_at-lt ready i) (unset ready i interrupt_order none listed)
     ]
 
-any_bit : (ready i : ℕ) → find (λ n. bit_at ready n == 1) order ≡ None → bit_and ready 0xffff0888 ≡ ready → (i < 32) ⊎ (32 ≤ i) → bit_at ready i ≡ 0
+any_bit : (ready i : ℕ) → find (λ n. bit_at ready n == 1) interrupt_order ≡ None → bit_and ready 0xffff0888 ≡ ready → (i < 32) ⊎ (32 ≤ i) → bit_at ready i ≡ 0
 any_bit ready i none inside (inl less) = listed_bit ready i none inside (at_below is_listed 32 i every_bit less)
 any_bit ready i none inside (inr more) = masked_bit ready i inside (bit_at_above 0xffff0888 32 i (lit< tt) more)
 
-pub none_ready : (ready : ℕ) → find (λ n. bit_at ready n == 1) order ≡ None → bit_and ready 0xffff0888 ≡ ready → ready ≡ 0
+pub none_ready : (ready : ℕ) → find (λ n. bit_at ready n == 1) interrupt_order ≡ None → bit_and ready 0xffff0888 ≡ ready → ready ≡ 0
 none_ready ready none inside = same_from_bits ready 0 (λ i. any_bit ready i none inside (cases_lt i 32) ∙ sym (bit_at-zero i))
 
 -- the interrupt that is taken
@@ -71,13 +71,13 @@ masked : (mip mie : ℕ) → bit_and mie 0xffff0888 ≡ mie → bit_and (bit_and
 masked mip mie inside = and_assoc 0xffff0888 mip mie ∙ ap (λ m. bit_and mip m) inside
 
 none_by : (on : Bool) (ready : ℕ) → bit_and ready 0xffff0888 ≡ ready → (if on then first_cause ready else None) ≡ None → (on ≡ false) ⊎ (ready ≡ 0)
-none_by true ready inside h = inr (none_ready ready (map_none (find (λ n. bit_at ready n == 1) order) h) inside)
+none_by true ready inside h = inr (none_ready ready (map_none (find (λ n. bit_at ready n == 1) interrupt_order) h) inside)
 none_by false ready inside h = inl refl
 
 by_none : (on : Bool) (ready : ℕ) → (on ≡ false) ⊎ (ready ≡ 0) → (if on then first_cause ready else None) ≡ None
 by_none false ready h = refl
 by_none true ready (inl h) = grind arith
-by_none true ready (inr h) = rw h (ap (λ o. option_map interrupt_cause o) (none_set 0 order))
+by_none true ready (inr h) = rw h (ap (λ o. option_map interrupt_cause o) (none_set 0 interrupt_order))
 
 pub pending_none : (s : CsrsState) (mip : ℕ) → bit_and s.mie 0xffff0888 ≡ s.mie → (pending_in s mip ≡ None) ↔ ((enabled s ≡ false) ⊎ (bit_and mip s.mie ≡ 0))
 unfolding pending_in

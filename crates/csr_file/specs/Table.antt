@@ -15,26 +15,26 @@ abbrev pub row : ℕ → ResetValue → WriteRule → CsrRow
 row number reset rule = record { number = number; reset = reset; rule = rule }
 
 -- the table
-abbrev pub row_of : Csr → CsrRow
-row_of Mstatus = row 0x300 (Word 0x1800) (MaskedBeside 0x88 0x1800)
-row_of Misa = row 0x301 (Word 0x40001104) Ignored
-row_of Mie = row 0x304 (Word 0) (Masked 0xffff0888)
-row_of Mtvec = row 0x305 (Word 0) (Masked 0xfffffffd)
-row_of Mstatush = row 0x310 (Word 0) Ignored
-row_of Mscratch = row 0x340 (Word 0) Whole
-row_of Mepc = row 0x341 (Word 0) (Masked 0xfffffffe)
-row_of Mcause = row 0x342 (Word 0) Whole
-row_of Mtval = row 0x343 (Word 0) Whole
-row_of Mip = row 0x344 InterruptLines Ignored
-row_of Mcycle = row 0xb00 (Word 0) Whole
-row_of Mcycleh = row 0xb80 (Word 0) Whole
-row_of Minstret = row 0xb02 (Word 0) Whole
-row_of Minstreth = row 0xb82 (Word 0) Whole
-row_of Mvendorid = row 0xf11 (Word 0) ReadOnly
-row_of Marchid = row 0xf12 (Word 0x13) ReadOnly
-row_of Mimpid = row 0xf13 (Word 0x10000) ReadOnly
-row_of Mhartid = row 0xf14 HartNumber ReadOnly
-row_of Mconfigptr = row 0xf15 (Word 0) ReadOnly
+abbrev pub csr_row : Csr → CsrRow
+csr_row Mstatus = row 0x300 (Word 0x1800) (MaskedBeside 0x88 0x1800)
+csr_row Misa = row 0x301 (Word 0x40001104) Ignored
+csr_row Mie = row 0x304 (Word 0) (Masked 0xffff0888)
+csr_row Mtvec = row 0x305 (Word 0) (Masked 0xfffffffd)
+csr_row Mstatush = row 0x310 (Word 0) Ignored
+csr_row Mscratch = row 0x340 (Word 0) Whole
+csr_row Mepc = row 0x341 (Word 0) (Masked 0xfffffffe)
+csr_row Mcause = row 0x342 (Word 0) Whole
+csr_row Mtval = row 0x343 (Word 0) Whole
+csr_row Mip = row 0x344 InterruptLines Ignored
+csr_row Mcycle = row 0xb00 (Word 0) Whole
+csr_row Mcycleh = row 0xb80 (Word 0) Whole
+csr_row Minstret = row 0xb02 (Word 0) Whole
+csr_row Minstreth = row 0xb82 (Word 0) Whole
+csr_row Mvendorid = row 0xf11 (Word 0) ReadOnly
+csr_row Marchid = row 0xf12 (Word 0x13) ReadOnly
+csr_row Mimpid = row 0xf13 (Word 0x10000) ReadOnly
+csr_row Mhartid = row 0xf14 HartNumber ReadOnly
+csr_row Mconfigptr = row 0xf15 (Word 0) ReadOnly
 
 -- all CSRs
 abbrev pub every : List Csr
@@ -42,7 +42,7 @@ every = Mstatus ∷ Misa ∷ Mie ∷ Mtvec ∷ Mstatush ∷ Mscratch ∷ Mepc �
 
 -- the CSR of a number
 unfoldable pub csr_at : ℕ → Option Csr
-csr_at number = find (λ c. (row_of c).number == number) every
+csr_at number = find (λ c. (csr_row c).number == number) every
 
 -- the word of a reset value, for a hart and what the lines give
 abbrev pub reset_word : ℕ → ℕ → ResetValue → ℕ
@@ -52,29 +52,29 @@ reset_word hart mip InterruptLines = mip
 
 -- what a CSR holds at reset
 abbrev pub at_reset : ℕ → ℕ → Csr → ℕ
-at_reset hart mip c = reset_word hart mip (row_of c).reset
+at_reset hart mip c = reset_word hart mip (csr_row c).reset
 
 -- the word that a CSR holds, where `mip` is what the lines give: one that no write changes holds what it holds at reset
-abbrev pub word_of : CsrsState → ℕ → Csr → ℕ
-word_of s mip Mstatus = s.mstatus
-word_of s mip Misa = at_reset s.hart mip Misa
-word_of s mip Mie = s.mie
-word_of s mip Mtvec = s.mtvec
-word_of s mip Mstatush = at_reset s.hart mip Mstatush
-word_of s mip Mscratch = s.mscratch
-word_of s mip Mepc = s.mepc
-word_of s mip Mcause = s.mcause
-word_of s mip Mtval = s.mtval
-word_of s mip Mip = at_reset s.hart mip Mip
-word_of s mip Mcycle = s.mcycle % 2 ^ 32
-word_of s mip Mcycleh = s.mcycle / 2 ^ 32
-word_of s mip Minstret = s.minstret % 2 ^ 32
-word_of s mip Minstreth = s.minstret / 2 ^ 32
-word_of s mip Mvendorid = at_reset s.hart mip Mvendorid
-word_of s mip Marchid = at_reset s.hart mip Marchid
-word_of s mip Mimpid = at_reset s.hart mip Mimpid
-word_of s mip Mhartid = at_reset s.hart mip Mhartid
-word_of s mip Mconfigptr = at_reset s.hart mip Mconfigptr
+abbrev pub held_word : CsrsState → ℕ → Csr → ℕ
+held_word s mip Mstatus = s.mstatus
+held_word s mip Misa = at_reset s.hart mip Misa
+held_word s mip Mie = s.mie
+held_word s mip Mtvec = s.mtvec
+held_word s mip Mstatush = at_reset s.hart mip Mstatush
+held_word s mip Mscratch = s.mscratch
+held_word s mip Mepc = s.mepc
+held_word s mip Mcause = s.mcause
+held_word s mip Mtval = s.mtval
+held_word s mip Mip = at_reset s.hart mip Mip
+held_word s mip Mcycle = s.mcycle % 2 ^ 32
+held_word s mip Mcycleh = s.mcycle / 2 ^ 32
+held_word s mip Minstret = s.minstret % 2 ^ 32
+held_word s mip Minstreth = s.minstret / 2 ^ 32
+held_word s mip Mvendorid = at_reset s.hart mip Mvendorid
+held_word s mip Marchid = at_reset s.hart mip Marchid
+held_word s mip Mimpid = at_reset s.hart mip Mimpid
+held_word s mip Mhartid = at_reset s.hart mip Mhartid
+held_word s mip Mconfigptr = at_reset s.hart mip Mconfigptr
 
 -- the state with another word in a CSR; one that never changes stays
 abbrev pub with_word : CsrsState → Csr → ℕ → CsrsState
@@ -101,15 +101,15 @@ kept ReadOnly old value = old
 
 -- a CSR may hold this word: a write of it would change nothing
 abbrev pub IsKeptBy : Csr → ℕ → Type 0
-IsKeptBy c word = kept (row_of c).rule word word ≡ word
+IsKeptBy c word = kept (csr_row c).rule word word ≡ word
 
 -- a write to a CSR with such a rule is done or ignored, and not refused
-abbrev pub takes : WriteRule → Bool
-takes (Masked mask) = true
-takes (MaskedBeside mask ones) = true
-takes Whole = true
-takes Ignored = true
-takes ReadOnly = false
+abbrev pub allows_write : WriteRule → Bool
+allows_write (Masked mask) = true
+allows_write (MaskedBeside mask ones) = true
+allows_write Whole = true
+allows_write Ignored = true
+allows_write ReadOnly = false
 
 -- the state at reset
 abbrev pub fresh : ℕ → CsrsState
@@ -128,20 +128,20 @@ fresh hart = record {
 
 -- what a read of a number gives: None where no CSR has it
 unfoldable pub read_at : CsrsState → ℕ → ℕ → Option ℕ
-read_at s number mip = option_map (word_of s mip) (csr_at number)
+read_at s number mip = option_map (held_word s mip) (csr_at number)
 
-abbrev pub written_in : CsrsState → Option Csr → ℕ → CsrsState
-written_in s None value = s
-written_in s (Some c) value = with_word s c (kept (row_of c).rule (word_of s 0 c) value)
+abbrev pub after_write_in : CsrsState → Option Csr → ℕ → CsrsState
+after_write_in s None value = s
+after_write_in s (Some c) value = with_word s c (kept (csr_row c).rule (held_word s 0 c) value)
 
 -- the state after a write to a number
-unfoldable pub written : CsrsState → ℕ → ℕ → CsrsState
-written s number value = written_in s (csr_at number) value
+unfoldable pub after_write : CsrsState → ℕ → ℕ → CsrsState
+after_write s number value = after_write_in s (csr_at number) value
 
-abbrev pub takes_in : Option Csr → Bool
-takes_in None = false
-takes_in (Some c) = takes (row_of c).rule
+abbrev pub allows_write_in : Option Csr → Bool
+allows_write_in None = false
+allows_write_in (Some c) = allows_write (csr_row c).rule
 
 -- a write to the number isn't refused: a CSR has it, and it isn't read-only
 unfoldable pub writable : ℕ → Bool
-writable number = takes_in (csr_at number)
+writable number = allows_write_in (csr_at number)

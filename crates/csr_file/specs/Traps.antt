@@ -14,12 +14,12 @@ abbrev pub enabled : CsrsState → Bool
 enabled s = bit_at s.mstatus 3 == 1
 
 -- mstatus with these two bits, MIE and MPIE; all others are as at reset
-abbrev pub status : ℕ → ℕ → ℕ
-status mie mpie = at_reset 0 0 Mstatus + mie * 2 ^ 3 + mpie * 2 ^ 7
+abbrev pub mstatus_with : ℕ → ℕ → ℕ
+mstatus_with mie mpie = at_reset 0 0 Mstatus + mie * 2 ^ 3 + mpie * 2 ^ 7
 
 -- the state after a trap: MPIE is what MIE was, and MIE is 0
 unfoldable pub trapped : CsrsState → ℕ → ℕ → ℕ → CsrsState
-trapped s pc cause value = record s { mepc = pc; mcause = cause; mtval = value; mstatus = status 0 (bit_at s.mstatus 3) }
+trapped s pc cause value = record s { mepc = pc; mcause = cause; mtval = value; mstatus = mstatus_with 0 (bit_at s.mstatus 3) }
 
 -- where a trap goes: an interrupt has its own entry where bit 0 of mtvec is 1
 unfoldable pub target : ℕ → ℕ → ℕ
@@ -29,15 +29,15 @@ target mtvec cause =
 
 -- the state after mret: MIE is what MPIE was, and MPIE is 1
 unfoldable pub returned : CsrsState → CsrsState
-returned s = record s { mstatus = status (bit_at s.mstatus 7) 1 }
+returned s = record s { mstatus = mstatus_with (bit_at s.mstatus 7) 1 }
 
 -- the numbers of the interrupts, the first taken first
-abbrev pub order : List ℕ
-order = 11 ∷ 3 ∷ 7 ∷ 16 ∷ 17 ∷ 18 ∷ 19 ∷ 20 ∷ 21 ∷ 22 ∷ 23 ∷ 24 ∷ 25 ∷ 26 ∷ 27 ∷ 28 ∷ 29 ∷ 30 ∷ 31 ∷ []
+abbrev pub interrupt_order : List ℕ
+interrupt_order = 11 ∷ 3 ∷ 7 ∷ 16 ∷ 17 ∷ 18 ∷ 19 ∷ 20 ∷ 21 ∷ 22 ∷ 23 ∷ 24 ∷ 25 ∷ 26 ∷ 27 ∷ 28 ∷ 29 ∷ 30 ∷ 31 ∷ []
 
 -- the cause of the first interrupt of the order whose bit is set
 abbrev pub first_cause : ℕ → Option ℕ
-first_cause ready = option_map interrupt_cause (find (λ number. bit_at ready number == 1) order)
+first_cause ready = option_map interrupt_cause (find (λ number. bit_at ready number == 1) interrupt_order)
 
 -- the cause of the interrupt that is taken, where `mip` is what the lines give
 unfoldable pub pending_in : CsrsState → ℕ → Option ℕ

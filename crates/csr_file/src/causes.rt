@@ -3,7 +3,7 @@ ghost use Rattle.std.specs.Prelude.{◌≡◌};
 ghost use Rattle.csr_file.specs.Causes.{cause_of};
 
 /// An exception, by its name in the privileged manual.
-#[derive(Clone, Copy, Debug, PartialEq, Eq)]
+#[derive(Clone, Copy)]
 pub enum Exception {
     InstructionAccessFault,
     IllegalInstruction,

@@ -3,9 +3,9 @@ ghost use Rattle.std.specs.Prelude.{◌≡◌, ◌==◌, ℕ, ◌+◌, ◌*◌, 
 ghost use Rattle.std.specs.Option.{option_map};
 ghost use Rattle.std.specs.List.{find, list_all};
 ghost use Rattle.std.specs.Int.{bit_at};
-ghost use Rattle.csr_file.specs.Table.{IsKeptBy, at_reset, fresh, read_at, written, writable, word_of, with_word, row_of, kept, takes, csr_at};
+ghost use Rattle.csr_file.specs.Table.{IsKeptBy, at_reset, fresh, read_at, after_write, writable, held_word, with_word, csr_row, kept, allows_write, csr_at};
 ghost use Rattle.csr_file.specs.declared.names.Csr.TheVariants.{Mstatus};
-ghost use Rattle.csr_file.specs.Traps.{enabled, status, first_cause, trapped, target, returned, pending_in, wakes_in, after_tick, after_retire};
+ghost use Rattle.csr_file.specs.Traps.{enabled, mstatus_with, first_cause, trapped, target, returned, pending_in, wakes_in, after_tick, after_retire};
 
 use crate::causes::INTERRUPT;
 use crate::names::Csr;
@@ -62,7 +62,7 @@ fn counter_at_reset(low: Csr, high: Csr) -> u64
 /// mstatus with MIE and MPIE.
 #[tactic(auto, using(crate::proofs::Fixed::status_fixed))]
 fn status_word(mie: bool, mpie: bool) -> u32
-    ensures value { result ≡ status (if mie then 1 else 0) (if mpie then 1 else 0) }
+    ensures value { result ≡ mstatus_with (if mie then 1 else 0) (if mpie then 1 else 0) }
     ensures fixed { IsKeptBy Mstatus result }
 {
     at_reset(Csr::Mstatus) + u32::from(mie) * 8 + u32::from(mpie) * 128
@@ -136,7 +136,7 @@ impl Csrs {
     }
 
     fn word(&self, csr: Csr, mip: u32) -> u32
-        ensures value { result ≡ word_of self.now mip csr }
+        ensures value { result ≡ held_word self.now mip csr }
         ensures fixed { IsKeptBy csr result }
     {
         match csr {
@@ -164,7 +164,7 @@ impl Csrs {
         ensures word { result ≡ read_at self.now addr mip }
         ensures none { (result ≡ None) ↔ (csr_at addr ≡ None) }
         // a write of the word that is read would keep it: its fixed bits are fixed
-        ensures fixed { (c : Csr) → csr_at addr ≡ Some c → IfSome result (λ word. kept (row_of c).rule word word ≡ word) }
+        ensures fixed { (c : Csr) → csr_at addr ≡ Some c → IfSome result (λ word. kept (csr_row c).rule word word ≡ word) }
     {
         let csr = Csr::at(addr)?;
         Some(self.word(csr, mip))
@@ -194,18 +194,18 @@ impl Csrs {
 
     /// Writes a CSR by its rule.
     fn put(&mut self, csr: Csr, value: u32) -> bool
-        ensures state { self.new ≡ with_word self.old csr (kept (row_of csr).rule (word_of self.old 0 csr) value) }
-        ensures done { result ≡ takes (row_of csr).rule }
+        ensures state { self.new ≡ with_word self.old csr (kept (csr_row csr).rule (held_word self.old 0 csr) value) }
+        ensures done { result ≡ allows_write (csr_row csr).rule }
     {
         let rule = csr.row().rule;
         let word = rule.kept(self.word(csr, 0), value);
         self.set(csr, word);
-        rule.takes()
+        rule.allows_write()
     }
 
-    #[tactic(auto, unfolding(crate::specs::Table::written, crate::specs::Table::writable))]
+    #[tactic(auto, unfolding(crate::specs::Table::after_write, crate::specs::Table::writable))]
     fn put_at(&mut self, addr: u16, value: u32) -> bool
-        ensures state { self.new ≡ written self.old addr value }
+        ensures state { self.new ≡ after_write self.old addr value }
         ensures done { result ≡ writable addr }
     {
         match Csr::at(addr) {
@@ -218,9 +218,9 @@ impl Csrs {
     /// changes in either case.
     #[tactic(auto, using(crate::proofs::Laws::write_refused, crate::proofs::Laws::refused_by))]
     pub fn write(&mut self, addr: u16, value: u32) -> bool
-        ensures state { self.new ≡ written self.old addr value }
+        ensures state { self.new ≡ after_write self.old addr value }
         ensures done { result ≡ writable addr }
-        ensures kept { (mip : ℕ) → read_at self.new addr mip ≡ option_map (λ c. kept (row_of c).rule (word_of self.old mip c) value) (csr_at addr) }
+        ensures kept { (mip : ℕ) → read_at self.new addr mip ≡ option_map (λ c. kept (csr_row c).rule (held_word self.old mip c) value) (csr_at addr) }
         ensures others { (other mip : ℕ) → addr ≢ other → read_at self.new other mip ≡ read_at self.old other mip }
         ensures refused { result ≡ false → self.new ≡ self.old }
         ensures cause { (result ≡ false) ↔ ((csr_at addr ≡ None) ⊎ (addr / 2 ^ 10 % 4 ≡ 3)) }
@@ -237,7 +237,7 @@ impl Csrs {
         ensures state { self.new ≡ trapped self.old pc cause value }
         ensures goes { result ≡ target self.old.mtvec cause }
         ensures even { result % 2 ≡ 0 }
-        ensures status { (mip : ℕ) → read_at self.new 0x300 mip ≡ Some (status 0 (bit_at self.old.mstatus 3)) }
+        ensures status { (mip : ℕ) → read_at self.new 0x300 mip ≡ Some (mstatus_with 0 (bit_at self.old.mstatus 3)) }
         ensures set { (mip : ℕ) → (read_at self.new 0x341 mip ≡ Some pc) × (read_at self.new 0x342 mip ≡ Some cause) × (read_at self.new 0x343 mip ≡ Some value) }
         ensures others { (other mip : ℕ) → other ≢ 0x300 → other ≢ 0x341 → other ≢ 0x342 → other ≢ 0x343 → read_at self.new other mip ≡ read_at self.old other mip }
     {
@@ -258,7 +258,7 @@ impl Csrs {
     pub fn mret(&mut self) -> u32
         ensures state { self.new ≡ returned self.old }
         ensures goes { result ≡ self.old.mepc }
-        ensures status { (mip : ℕ) → read_at self.new 0x300 mip ≡ Some (status (bit_at self.old.mstatus 7) 1) }
+        ensures status { (mip : ℕ) → read_at self.new 0x300 mip ≡ Some (mstatus_with (bit_at self.old.mstatus 7) 1) }
         ensures even { result % 2 ≡ 0 }
         ensures others { (other mip : ℕ) → other ≢ 0x300 → read_at self.new other mip ≡ read_at self.old other mip }
     {

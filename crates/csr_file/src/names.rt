@@ -1,7 +1,7 @@
 //! Which CSRs there are: their numbers, their values at reset, and what a write does to them.
 
 /// A control and status register, by its name in the privileged manual.
-#[derive(Clone, Copy, Debug, PartialEq, Eq)]
+#[derive(Clone, Copy)]
 pub enum Csr {
     Mstatus,
     Misa,
@@ -102,7 +102,7 @@ impl ResetValue {
 
 impl WriteRule {
     ghost use Rattle.std.specs.Prelude.{◌≡◌};
-    ghost use Rattle.csr_file.specs.Table.{kept, takes};
+    ghost use Rattle.csr_file.specs.Table.{allows_write, kept};
 
     /// What a CSR that held `old` holds after a write.
     #[tactic(auto, using(crate::proofs::Fixed::masked_twice, crate::proofs::Fixed::beside_twice))]
@@ -119,8 +119,8 @@ impl WriteRule {
     }
 
     /// Whether a write is done or ignored, and not refused.
-    pub(crate) fn takes(self) -> bool
-        ensures { result ≡ takes self }
+    pub(crate) fn allows_write(self) -> bool
+        ensures { result ≡ allows_write self }
     {
         !matches!(self, WriteRule::ReadOnly)
     }
@@ -128,11 +128,11 @@ impl WriteRule {
 
 impl Csr {
     ghost use Rattle.std.specs.Prelude.{◌≡◌};
-    ghost use Rattle.csr_file.specs.Table.{csr_at, row_of};
+    ghost use Rattle.csr_file.specs.Table.{csr_at, csr_row};
 
     /// Its row of the table.
     pub fn row(self) -> CsrRow
-        ensures { result ≡ row_of self }
+        ensures { result ≡ csr_row self }
     {
         use ResetValue::{HartNumber, InterruptLines, Word};
         use WriteRule::{Ignored, Masked, MaskedBeside, ReadOnly, Whole};
@@ -175,11 +175,11 @@ impl Csr {
 
 ghost use Rattle.std.specs.Prelude.{◌≡◌, ◌==◌};
 ghost use Rattle.std.specs.List.{find};
-ghost use Rattle.csr_file.specs.Table.{row_of};
+ghost use Rattle.csr_file.specs.Table.{csr_row};
 
 /// The first of these CSRs that has a number.
 fn first_with(number: u16, csrs: &[Csr]) -> Option<Csr>
-    ensures { result ≡ find (λ c. (row_of c).number == number) csrs.now }
+    ensures { result ≡ find (λ c. (csr_row c).number == number) csrs.now }
 {
     for csr in csrs {
         if csr.row().number == number {

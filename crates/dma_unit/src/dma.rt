@@ -13,7 +13,7 @@ use std::marker::Model;
 ///
 /// A copy moves COUNT words, one access to the bus at each grant: it reads a word at SRC, then writes it at DST. No call
 /// takes memory.
-#[derive(Debug, Drop)]
+#[derive(Drop)]
 pub struct Dma {
     interrupt: bool,
     source_fixed: bool,

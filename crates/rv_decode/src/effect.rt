@@ -1,7 +1,7 @@
 //! What instructions do, and what their cycles depend on.
 
 /// What a row of arithmetic computes from two words.
-#[derive(Clone, Copy, Debug, PartialEq, Eq)]
+#[derive(Clone, Copy)]
 pub enum AluFunction {
     Sum,
     Difference,
@@ -32,7 +32,7 @@ pub enum AluFunction {
 }
 
 /// Where a branch is taken, by the words of its two registers.
-#[derive(Clone, Copy, Debug, PartialEq, Eq)]
+#[derive(Clone, Copy)]
 pub enum BranchCondition {
     Equal,
     NotEqual,
@@ -43,7 +43,7 @@ pub enum BranchCondition {
 }
 
 /// What an instruction writes to a control and status register, by the word that it holds and the operand.
-#[derive(Clone, Copy, Debug, PartialEq, Eq)]
+#[derive(Clone, Copy)]
 pub enum CsrChange {
     /// The operand.
     Replace,
@@ -54,7 +54,7 @@ pub enum CsrChange {
 }
 
 /// What an instruction does.
-#[derive(Clone, Copy, Debug, PartialEq, Eq)]
+#[derive(Clone, Copy)]
 pub enum Does {
     /// Puts a function of rs1 and a second operand into rd: of rs2, or of the immediate, as the format has it.
     Computes(AluFunction),
@@ -81,7 +81,7 @@ pub enum Does {
 }
 
 /// What the cycles of an instruction depend on.
-#[derive(Clone, Copy, Debug, PartialEq, Eq)]
+#[derive(Clone, Copy)]
 pub enum CostKind {
     /// Simple that is none of the following, and the upper part of a word.
     Simple,

@@ -1,7 +1,7 @@
 //! How operands lie in a word and are written.
 
 /// Where an instruction's operands lie in its word, and how they are written.
-#[derive(Clone, Copy, Debug, PartialEq, Eq)]
+#[derive(Clone, Copy)]
 pub enum Format {
     /// rd, rs1 and rs2, written `rd, rs1, rs2`.
     Register,

@@ -7,14 +7,14 @@ use Rattle.chip_base.specs.declared.setup.Setup.{Setup}
 use Rattle.text_fields.specs.Fields.{Text}
 use Rattle.script_text.specs.ChipFile.{chip_of, read_document}
 use Rattle.script_text.specs.ChipRead.{IsChipAnswer, IsSettingsOrMemory}
-use Rattle.script_text.specs.Faults.{Fault}
+use Rattle.script_text.specs.Faults.{KeyFaultAt}
 use Rattle.script_text.specs.declared.chip.SetupFault.{SetupFault}
 use Rattle.script_text.specs.declared.chip.SetupFault.TheVariants as refused
 
-same_settings : (a b : Values) (r : Option (Result Values Fault)) → r ≡ Some (Ok a) → r ≡ Some (Ok b) → b ≡ a
+same_settings : (a b : Values) (r : Option (Result Values KeyFaultAt)) → r ≡ Some (Ok a) → r ≡ Some (Ok b) → b ≡ a
 same_settings a b r p q = cc
 
-no_fault : (a : Values) (f : Fault) (r : Option (Result Values Fault)) → r ≡ Some (Ok a) → r ≡ Some (Err f) → ⊥
+no_fault : (a : Values) (f : KeyFaultAt) (r : Option (Result Values KeyFaultAt)) → r ≡ Some (Ok a) → r ≡ Some (Err f) → ⊥
 no_fault a f r p q = cc
 
 no_refusal : (a : Values) (text : Text) → chip_of text ≡ Some (Ok a) → parse_document text ≡ None → ⊥

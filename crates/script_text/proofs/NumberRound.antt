@@ -3,14 +3,14 @@ use Rattle.std.proofs.Common.{◌≡◌, ◌<◌, ◌^◌, ◌-◌, ℕ, true, [
 use Rattle.std.specs.Fmt.{decimal}
 use Rattle.std.proofs.lemmas.Fmt.{decimal_nonempty}
 use Rattle.std.specs.List.{list_all}
-use Rattle.text_fields.specs.Fields.{Text, after, ends_field, field, is_part, skip}
+use Rattle.text_fields.specs.Fields.{Text, after_field, ends_field, field, is_part, skip}
 use Rattle.text_fields.specs.Numbers.{number_of}
 use Rattle.text_fields.proofs.FieldRound.{after_run, digits_parts, field_run, skip_run}
 use Rattle.text_fields.proofs.PrintedNumbers.{digits_of_decimal, number_of-decimal}
 use Rattle.script_text.specs.ScriptLine.{number_field, or_fault}
 use Rattle.script_text.specs.declared.script_fault.ScriptKind.TheVariants as kind
 
-number_some : (t : Text) → 0 < length t → number_field t ≡ or_fault kind.Number (number_of 10 (2 ^ 32 - 1) (field t)) (after t)
+number_some : (t : Text) → 0 < length t → number_field t ≡ or_fault kind.Number (number_of 10 (2 ^ 32 - 1) (field t)) (after_field t)
 unfolding number_field
 number_some [] h = absurd (omega arith)
 number_some (b ∷ more) h = refl

@@ -4,7 +4,7 @@ use Rattle.std.proofs.lemmas.Bool.Decides.{nat_tests}
 use Rattle.std.specs.Fmt.{decimal}
 use Rattle.std.specs.Prelude.{◌==◌, nat_le, nat_lt}
 use Rattle.std.specs.List.{prefix_len}
-use Rattle.text_fields.specs.Fields.{Text, after, ends_field, field, is_blank, skip}
+use Rattle.text_fields.specs.Fields.{Text, after_field, ends_field, field, is_blank, skip}
 use Rattle.text_fields.specs.Numbers.{number_of}
 use Rattle.text_fields.proofs.FieldRound.{skip_blank}
 use Rattle.chip_base.specs.Steps.{is_pin}
@@ -22,7 +22,7 @@ level_of true = 1
 level_of false = 0
 
 level_read : (l : Bool) → number_field (skip (level_text l)) ≡ Ok (level_of l, [])
-unfolding level_text number_field number_of field after skip
+unfolding level_text number_field number_of field after_field skip
 level_read true = refl
 level_read false = refl
 
@@ -40,7 +40,7 @@ level_over true = refl
 level_over false = refl
 
 pin_line_of : (last : ℕ) (x : Text) → line_of last (codes "pin " ++ x) ≡ with_item item.Pin (pin_of last (skip x))
-unfolding line_of field after skip
+unfolding line_of field after_field skip
 pin_line_of last x = let one : 1 + prefix_len is_blank x ≡ suc (prefix_len is_blank x) = omega arith in rw one refl
 
 pin_fields : (last cycle pin : ℕ) (l : Bool) → last ≤ cycle → cycle < 2 ^ 32 → pin ≤ 31

@@ -12,7 +12,7 @@ use Rattle.chip_base.specs.declared.script.PinStep.{PinStep}
 use Rattle.chip_base.specs.declared.script.Script.{Script}
 use Rattle.chip_base.specs.declared.script.UartStep.{UartStep}
 use Rattle.script_text.specs.ScriptFile.{last_cycle, line_of, read_lines, script_of, with_added, with_line}
-use Rattle.script_text.specs.ScriptText.{ended, has_bytes, pin_line, pin_text, script_text, step_line, step_text}
+use Rattle.script_text.specs.ScriptText.{has_bytes, pin_line, pin_text, script_text, step_line, step_text, terminated}
 use Rattle.script_text.specs.declared.script_fault.ScriptFault.{ScriptFault}
 use Rattle.script_text.proofs.Lists.{left, right}
 use Rattle.script_text.proofs.PinRound.{pin_read}
@@ -26,9 +26,9 @@ script pins uart0 uart1 = record { pins = pins; uart0 = uart0; uart1 = uart1 }
 
 -- one printed line is read, and the lines after it come next
 one_line : (text more rest : Text) (s next : Script) (r : Result Script ScriptFault) (n : ℕ) → list_all is_shown text ≡ true → with_line s text ≡ Ok next
-    → read_lines (lines (more ++ rest)) (n + 1) next ≡ r → read_lines (lines ((ended text ++ more) ++ rest)) n s ≡ r
+    → read_lines (lines (more ++ rest)) (n + 1) next ≡ r → read_lines (lines ((terminated text ++ more) ++ rest)) n s ≡ r
 one_line text more rest s next r n shown is then_more =
-    let same : (ended text ++ more) ++ rest ≡ text ++ 10 ∷ (more ++ rest) = append_assoc (ended text) more rest ∙ append_assoc text (10 ∷ []) (more ++ rest) in
+    let same : (terminated text ++ more) ++ rest ≡ text ++ 10 ∷ (more ++ rest) = append_assoc (terminated text) more rest ∙ append_assoc text (10 ∷ []) (more ++ rest) in
     ap (λ t. read_lines (lines t) n s) same
     ∙ read_step (lines (text ++ 10 ∷ (more ++ rest))) text (lines (more ++ rest)) n s (Ok next) (lines_line text (more ++ rest) shown) is
     ∙ then_more

@@ -5,7 +5,7 @@ use Rattle.std.specs.Fmt.{decimal}
 use Rattle.std.specs.List.{flat_map, list_all, prefix_len}
 use Rattle.hex.specs.Hex.{decode_of, encode_lower, encode_with, hex_digit_value, lower_digits}
 use Rattle.hex.proofs.HexLemmas.{IsDigits-lower_digits, decode_of-encode_lower, length-encode_with}
-use Rattle.text_fields.specs.Fields.{Text, after, field, is_blank, is_part, skip}
+use Rattle.text_fields.specs.Fields.{Text, after_field, field, is_blank, is_part, skip}
 use Rattle.text_fields.specs.Quoted.{quoted, quoted_text, turn}
 use Rattle.text_fields.proofs.FieldRound.{after_run, field_run, skip_run}
 use Rattle.chip_base.specs.UnitTable.{unit_row}
@@ -14,7 +14,7 @@ use Rattle.chip_base.specs.Steps.{is_step}
 use Rattle.chip_base.specs.declared.script.UartStep.{UartStep}
 use Rattle.chip_base.specs.declared.script.UartStep.TheVariants as step
 use Rattle.script_text.specs.ScriptFile.{line_of, with_item}
-use Rattle.script_text.specs.ScriptLine.{at_of, decoded, expect_of, hex_field, hex_of, or_fault, send_of, text_field, uart_of}
+use Rattle.script_text.specs.ScriptLine.{at_of, expect_of, hex_bytes, hex_field, hex_of, or_fault, send_of, text_field, uart_of}
 use Rattle.script_text.specs.ScriptText.{has_bytes, is_byte, quoted_byte, step_text}
 use Rattle.script_text.specs.declared.script_fault.ScriptKind.TheVariants as kind
 use Rattle.script_text.specs.declared.script_item.Item.TheVariants as item
@@ -26,7 +26,7 @@ use Rattle.script_text.proofs.SmallBytes.{all_bytes}
 -- ---- a wait for a cycle
 
 at_line : (x : Text) → uart_of (skip (codes " at " ++ x)) ≡ at_of (skip x)
-unfolding uart_of field after skip
+unfolding uart_of field after_field skip
 at_line x = let one : 1 + prefix_len is_blank x ≡ suc (prefix_len is_blank x) = omega arith in rw one refl
 
 at_read : (cycle : ℕ) → cycle < 2 ^ 32 → at_of (skip (decimal cycle)) ≡ Ok (step.At cycle)
@@ -36,7 +36,7 @@ at_read cycle small = rw (number_skip_end cycle small, number_end cycle small) r
 -- ---- a wait for a text
 
 expect_line : (x : Text) → uart_of (skip (codes " expect \"" ++ x)) ≡ expect_of (codes "\"" ++ x)
-unfolding uart_of field after skip
+unfolding uart_of field after_field skip
 expect_line x = refl
 
 text_read : (x : Text) (bytes : List ℕ) → quoted_text x ≡ Some (bytes, []) → text_field (codes "\"" ++ x) ≡ Ok (bytes, [])
@@ -50,11 +50,11 @@ expect_read bytes is all = rw (text_read (flat_map quoted_byte bytes ++ codes "\
 -- ---- bytes to send
 
 send_empty : uart_of (skip (codes " send \"\"")) ≡ Ok (step.Send [])
-unfolding uart_of field after skip send_of text_field quoted turn
+unfolding uart_of field after_field skip send_of text_field quoted turn
 send_empty = refl
 
 hex_line : (x : Text) → uart_of (skip (codes " hex " ++ x)) ≡ hex_of (skip x)
-unfolding uart_of field after skip
+unfolding uart_of field after_field skip
 hex_line x = let one : 1 + prefix_len is_blank x ≡ suc (prefix_len is_blank x) = omega arith in rw one refl
 
 digit_part : (c d : ℕ) → hex_digit_value c ≡ Some d → is_part c ≡ true
@@ -70,12 +70,12 @@ digits_parts (b ∷ bs) all =
     let low = digit_part (slice_index lower_digits (b % 16)) (b % 16) (IsDigits-lower_digits (b % 16) (omega arith)) in
     rw (high, low) (digits_parts bs (right (is_byte b) _ all))
 
-hex_some : (t : Text) → 0 < length t → hex_field t ≡ or_fault kind.Hex (decoded (decode_of (field t))) (after t)
+hex_some : (t : Text) → 0 < length t → hex_field t ≡ or_fault kind.Hex (hex_bytes (decode_of (field t))) (after_field t)
 unfolding hex_field
 hex_some [] h = absurd (omega arith)
 hex_some (b ∷ more) h = refl
 
-hex_read : (t : Text) (bytes : List ℕ) → 0 < length t → field t ≡ t → after t ≡ [] → decode_of t ≡ Ok bytes → hex_of t ≡ Ok (step.Send bytes)
+hex_read : (t : Text) (bytes : List ℕ) → 0 < length t → field t ≡ t → after_field t ≡ [] → decode_of t ≡ Ok bytes → hex_of t ≡ Ok (step.Send bytes)
 unfolding hex_of
 hex_read t bytes some whole rest is = rw (hex_some t some, whole, rest, is) refl
 
@@ -89,7 +89,7 @@ hex_end t bytes some parts is =
     let same = append-nil t in
     let front : skip t ≡ t = ap skip (sym same) ∙ skip_run t [] parts some ∙ same in
     let whole : field t ≡ t = ap field (sym same) ∙ field_run t [] parts refl in
-    let rest : after t ≡ [] = ap after (sym same) ∙ after_run t [] parts refl ∙ no_field in
+    let rest : after_field t ≡ [] = ap after_field (sym same) ∙ after_run t [] parts refl ∙ no_field in
     ap hex_of front ∙ hex_read t bytes some whole rest is
 
 sent_read : (b : ℕ) (more : List ℕ) → list_all is_byte (b ∷ more) ≡ true → hex_of (skip (encode_lower (b ∷ more))) ≡ Ok (step.Send (b ∷ more))
@@ -100,7 +100,7 @@ sent_read b more all =
 -- ---- the step of a line
 
 image_read : uart_of (skip (codes " image")) ≡ Ok step.Image
-unfolding uart_of field after skip
+unfolding uart_of field after_field skip
 image_read = refl
 
 pub step_read : (u : UartStep) → is_step u ≡ true → has_bytes u ≡ true → uart_of (skip (step_text u)) ≡ Ok u
@@ -121,11 +121,11 @@ blank_first (step.Send (b ∷ more)) = (codes "hex " ++ encode_lower (b ∷ more
 blank_first step.Image = (codes "image", refl)
 
 first_line : (last : ℕ) (x : Text) → line_of last ((unit_row unit.Uart0).name ++ (32 ∷ x)) ≡ with_item item.Uart0 (uart_of (skip (32 ∷ x)))
-unfolding line_of field after skip
+unfolding line_of field after_field skip
 first_line last x = refl
 
 second_line : (last : ℕ) (x : Text) → line_of last ((unit_row unit.Uart1).name ++ (32 ∷ x)) ≡ with_item item.Uart1 (uart_of (skip (32 ∷ x)))
-unfolding line_of field after skip
+unfolding line_of field after_field skip
 second_line last x = refl
 
 pub uart0_read : (last : ℕ) (u : UartStep) → is_step u ≡ true → has_bytes u ≡ true → line_of last ((unit_row unit.Uart0).name ++ step_text u) ≡ Ok (item.Uart0 u)

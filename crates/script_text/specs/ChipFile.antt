@@ -7,7 +7,7 @@ use Rattle.chip_base.specs.Settings.{Values, standard}
 use Rattle.chip_base.specs.UnitTable.{link_place, unit_named}
 use Rattle.script_text.specs.declared.chip.KeyFault.{KeyFault}
 use Rattle.script_text.specs.declared.chip.KeyFault.TheVariants as fault
-use Rattle.script_text.specs.Faults.{Fault}
+use Rattle.script_text.specs.Faults.{KeyFaultAt}
 
 abbrev pub Text : Type 0
 Text = List ℕ
@@ -59,37 +59,37 @@ abbrev pub read_delay : Text → Data → Values → Result Values KeyFault
 read_delay key d v = read_at (delay_place key) d v
 
 -- a fault at this key
-abbrev pub at_key : Bool → Text → Result Values KeyFault → Result Values Fault
+abbrev pub at_key : Bool → Text → Result Values KeyFault → Result Values KeyFaultAt
 at_key in_delay key (Ok v) = Ok v
 at_key in_delay key (Err kind) = Err (record { kind = kind; in_delay = in_delay; key = key })
 
-abbrev pub then_more : (Values → Result Values Fault) → Result Values Fault → Result Values Fault
+abbrev pub then_more : (Values → Result Values KeyFaultAt) → Result Values KeyFaultAt → Result Values KeyFaultAt
 then_more more (Ok v) = more v
 then_more more (Err e) = Err e
 
 -- the keys of the table of delays, in their order
-unfoldable pub read_delays : Members → Values → Result Values Fault
+unfoldable pub read_delays : Members → Values → Result Values KeyFaultAt
 read_delays no_members v = Ok v
 read_delays (member key d more) v = then_more (read_delays more) (at_key true key (read_delay key d v))
 
-abbrev pub read_table : Text → Data → Values → Result Values Fault
+abbrev pub read_table : Text → Data → Values → Result Values KeyFaultAt
 read_table key (table ms) v = read_delays ms v
 read_table key _ v = Err (record { kind = fault.Key; in_delay = false; key = key })
 
-abbrev pub read_key : Text → Data → Values → Result Values Fault
+abbrev pub read_key : Text → Data → Values → Result Values KeyFaultAt
 read_key key d v =
     if bytes_eq key (codes "delay") then read_table key d v
     else at_key false key (read_plain key d v)
 
 -- the keys of the document, in their order, from the settings so far
-unfoldable pub read_keys : Members → Values → Result Values Fault
+unfoldable pub read_keys : Members → Values → Result Values KeyFaultAt
 read_keys no_members v = Ok v
 read_keys (member key d more) v = then_more (read_keys more) (read_key key d v)
 
 -- what a chip file's text means: nothing where it is no document
-abbrev pub read_document : Option Members → Option (Result Values Fault)
+abbrev pub read_document : Option Members → Option (Result Values KeyFaultAt)
 read_document None = None
 read_document (Some ms) = Some (read_keys ms standard)
 
-abbrev pub chip_of : Text → Option (Result Values Fault)
+abbrev pub chip_of : Text → Option (Result Values KeyFaultAt)
 chip_of text = read_document (parse_document text)

@@ -1,7 +1,7 @@
 -- A definition: what a script's text means.
 use Rattle.std.specs.Prelude.{ℕ, ◌+◌, ◌==◌, List, [], ◌∷◌, ◌++◌, Result, Ok, Err, codes, if◌then◌else◌, fold}
 use Rattle.std.specs.Str.{bytes_eq}
-use Rattle.text_fields.specs.Fields.{Text, after, field, skip}
+use Rattle.text_fields.specs.Fields.{Text, after_field, field, skip}
 use Rattle.text_fields.specs.Lines.{lines}
 use Rattle.chip_base.specs.UnitTable.{unit_row}
 use Rattle.chip_base.specs.declared.chip_unit.ChipUnit.TheVariants as unit
@@ -30,7 +30,7 @@ item_named last word rest =
 -- a line without blanks at its front: empty, a comment, or an item
 abbrev pub item_in : ℕ → Text → Result Item ScriptKind
 item_in last [] = Ok item.Nothing
-item_in last (b ∷ more) = if b == 35 then Ok item.Nothing else item_named last (field (b ∷ more)) (after (b ∷ more))
+item_in last (b ∷ more) = if b == 35 then Ok item.Nothing else item_named last (field (b ∷ more)) (after_field (b ∷ more))
 
 -- what a line means, where the pin line before has the cycle `last`
 unfoldable pub line_of : ℕ → Text → Result Item ScriptKind

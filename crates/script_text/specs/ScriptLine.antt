@@ -3,7 +3,7 @@ use Rattle.std.specs.Prelude.{ℕ, ◌-◌, ◌^◌, ◌==◌, Bool, true, false
 use Rattle.std.specs.Str.{bytes_eq}
 use Rattle.hex.specs.Hex.{decode_of}
 use Rattle.hex.specs.declared.error.FromHexError.{FromHexError}
-use Rattle.text_fields.specs.Fields.{Text, after, ends_field, field, skip}
+use Rattle.text_fields.specs.Fields.{Text, after_field, ends_field, field, skip}
 use Rattle.text_fields.specs.Numbers.{number_of}
 use Rattle.text_fields.specs.Quoted.{quoted_text}
 use Rattle.chip_base.specs.Steps.{is_step}
@@ -40,17 +40,17 @@ fault_if false k r = r
 -- a number of one to ten digits, below 2 ^ 32
 unfoldable pub number_field : Text → Read ℕ
 number_field [] = Err kind.Word
-number_field (b ∷ more) = or_fault kind.Number (number_of 10 (2 ^ 32 - 1) (field (b ∷ more))) (after (b ∷ more))
+number_field (b ∷ more) = or_fault kind.Number (number_of 10 (2 ^ 32 - 1) (field (b ∷ more))) (after_field (b ∷ more))
 
 -- the bytes, where the digits have any
-abbrev pub decoded : Result (List ℕ) FromHexError → Option (List ℕ)
-decoded (Ok bytes) = Some bytes
-decoded (Err e) = None
+abbrev pub hex_bytes : Result (List ℕ) FromHexError → Option (List ℕ)
+hex_bytes (Ok bytes) = Some bytes
+hex_bytes (Err e) = None
 
 -- an even number of hexadecimal digits
 unfoldable pub hex_field : Text → Read (List ℕ)
 hex_field [] = Err kind.Word
-hex_field (b ∷ more) = or_fault kind.Hex (decoded (decode_of (field (b ∷ more)))) (after (b ∷ more))
+hex_field (b ∷ more) = or_fault kind.Hex (hex_bytes (decode_of (field (b ∷ more)))) (after_field (b ∷ more))
 
 -- the closing quote ends the field
 abbrev pub closed : Option (List ℕ × Text) → Read (List ℕ)
@@ -98,4 +98,4 @@ step_named word rest =
 
 -- a UART's line after its name
 unfoldable pub uart_of : Text → Result UartStep ScriptKind
-uart_of text = step_named (field text) (after text)
+uart_of text = step_named (field text) (after_field text)

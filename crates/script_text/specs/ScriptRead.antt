@@ -29,8 +29,8 @@ may_follow last (item.Uart1 u) = is_step u
 may_follow last item.Nothing = true
 
 -- the script of what was found
-abbrev pub script_in : Found → Script
-script_in f = record { pins = f.pins.items; uart0 = f.uart0.items; uart1 = f.uart1.items }
+abbrev pub script_found : Found → Script
+script_found f = record { pins = f.pins.items; uart0 = f.uart0.items; uart1 = f.uart1.items }
 
 -- pins in order, texts to expect within their length, and the last pin's cycle
 pub record IsFound (f : Found) : Type 0 where

@@ -33,16 +33,16 @@ step_text (step.Send (b ∷ more)) = codes " hex " ++ encode_lower (b ∷ more)
 step_text step.Image = codes " image"
 
 -- a line
-abbrev pub ended : Text → Text
-ended text = text ++ 10 ∷ []
+abbrev pub terminated : Text → Text
+terminated text = text ++ 10 ∷ []
 
 -- the line of a pin's change
 abbrev pub pin_line : PinStep → Text
-pin_line p = ended (pin_text p)
+pin_line p = terminated (pin_text p)
 
 -- the line of a step of the UART with this name
 abbrev pub step_line : Text → UartStep → Text
-step_line name u = ended (name ++ step_text u)
+step_line name u = terminated (name ++ step_text u)
 
 -- a script's lines: the pins, then the steps of uart0, then those of uart1
 abbrev pub script_text : Script → Text

@@ -89,7 +89,7 @@ fn with_delay_key(mut setup: Setup, key: &str, value: &Value) -> Result<Setup, K
 }
 
 /// A fault at a key, which may be one of the table of delays.
-#[derive(Clone, Copy, Debug, Drop)]
+#[derive(Clone, Copy, Drop)]
 pub(crate) struct KeyAt<'a> {
     pub kind: KeyFault,
     pub in_delay: bool,
@@ -161,7 +161,7 @@ fn setup_of<'a>(table: &'a Table) -> Result<Setup, KeyAt<'a>>
 }
 
 /// Why a chip file is refused. The name of a key of the table of delays begins with `delay.`.
-#[derive(Debug, Drop)]
+#[derive(Drop)]
 pub enum SetupFault {
     /// It is no TOML document in UTF-8.
     Toml,

@@ -3,7 +3,7 @@ ghost use Rattle.std.specs.Prelude.{◌≡◌, ◌<◌, ◌≤◌, ◌^◌, ◌�
 ghost use Rattle.std.specs.List.{list_all};
 ghost use Rattle.chip_base.specs.Steps.{are_pins, is_step};
 ghost use Rattle.script_text.specs.ScriptFile.{added, script_of, with_line};
-ghost use Rattle.script_text.specs.ScriptRead.{IsFound, IsScriptAnswer, may_follow, script_in};
+ghost use Rattle.script_text.specs.ScriptRead.{IsFound, IsScriptAnswer, may_follow, script_found};
 
 use crate::script_fault::{ScriptFault, ScriptKind};
 use crate::script_item::{Found, Item};
@@ -17,7 +17,7 @@ use text_fields::lines::cut_line;
 fn add_item(mut found: Found, item: Item) -> Result<Found, ScriptKind>
     requires found { IsFound found }
     requires follows { may_follow found.last item ≡ true }
-    ensures added { IfOk result (λ f. script_in f ≡ added (script_in found) item) }
+    ensures added { IfOk result (λ f. script_found f ≡ added (script_found found) item) }
     ensures valid { IfOk result (λ f. IsFound f) }
     ensures memory { IfErr result (λ k. k ≡ ScriptKind.Memory) }
 {
@@ -44,9 +44,9 @@ fn add_item(mut found: Found, item: Item) -> Result<Found, ScriptKind>
 /// What was found, with one line more.
 fn add_line(alloc: Global, found: Found, text: &[u8]) -> Result<Found, ScriptKind>
     requires { IsFound found }
-    ensures ok { IfOk result (λ f. with_line (script_in found) text.now ≡ Ok (script_in f)) }
+    ensures ok { IfOk result (λ f. with_line (script_found found) text.now ≡ Ok (script_found f)) }
     ensures valid { IfOk result (λ f. IsFound f) }
-    ensures err { IfErr result (λ k. (k ≡ ScriptKind.Memory) ⊎ (with_line (script_in found) text.now ≡ Err k)) }
+    ensures err { IfErr result (λ k. (k ≡ ScriptKind.Memory) ⊎ (with_line (script_found found) text.now ≡ Err k)) }
     ensures some { IfErr result (λ k. 0 < length text.now) }
 {
     if text.is_empty() {
@@ -62,7 +62,7 @@ fn add_line(alloc: Global, found: Found, text: &[u8]) -> Result<Found, ScriptKin
 #[tactic(auto, using(crate::proofs::ReadSteps::read_step, crate::proofs::ReadSteps::read_end))]
 fn read_found(alloc: Global, text: &[u8]) -> Result<Found, ScriptFault>
     requires { length text.now < 2 ^ 32 }
-    ensures ok { IfOk result (λ f. script_of text.now ≡ Ok (script_in f)) }
+    ensures ok { IfOk result (λ f. script_of text.now ≡ Ok (script_found f)) }
     ensures valid { IfOk result (λ f. IsFound f) }
     ensures err { IfErr result (λ e. (e.kind ≡ ScriptKind.Memory) ⊎ (script_of text.now ≡ Err e)) }
 {

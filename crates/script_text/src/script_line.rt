@@ -10,7 +10,7 @@ use crate::script_item::Item;
 use chip_base::{Bytes, ChipUnit, PinStep, UartStep};
 use hex::FromHexError;
 use std::alloc::Global;
-use text_fields::fields::{after, ends_field, field, skip};
+use text_fields::fields::{after_field, ends_field, field, skip};
 use text_fields::numbers::number;
 use text_fields::quoted::read_quoted;
 
@@ -23,7 +23,7 @@ fn number_field<'a>(text: &'a [u8]) -> Result<(u32, &'a [u8]), ScriptKind>
         return Err(ScriptKind::Word);
     }
     match number(10, u32::MAX, field(text)) {
-        Some(value) => Ok((value, after(text))),
+        Some(value) => Ok((value, after_field(text))),
         None => Err(ScriptKind::Number),
     }
 }
@@ -38,7 +38,7 @@ fn hex_field<'a>(alloc: Global, text: &'a [u8]) -> Result<(Bytes, &'a [u8]), Scr
         return Err(ScriptKind::Word);
     }
     match hex::decode(alloc, field(text)) {
-        Ok(bytes) => Ok((Bytes::from_vec(bytes), after(text))),
+        Ok(bytes) => Ok((Bytes::from_vec(bytes), after_field(text))),
         Err(FromHexError::OutOfMemory) => Err(ScriptKind::Memory),
         Err(_) => Err(ScriptKind::Hex),
     }
@@ -182,7 +182,7 @@ fn read_uart(alloc: Global, text: &[u8]) -> Result<UartStep, ScriptKind>
     ensures err { IfErr result (λ k. (k ≡ ScriptKind.Memory) ⊎ (uart_of text.now ≡ Err k)) }
     ensures valid { IfOk result (λ s. is_step s ≡ true) }
 {
-    let rest = after(text);
+    let rest = after_field(text);
     match field(text) {
         b"at" => read_at(rest),
         b"expect" => read_expect(alloc, rest),
@@ -231,5 +231,5 @@ pub(crate) fn read_line(alloc: Global, last: u32, text: &[u8]) -> Result<Item, S
     if text.is_empty() || text[0] == b'#' {
         return Ok(Item::Nothing);
     }
-    read_named(alloc, last, field(text), after(text))
+    read_named(alloc, last, field(text), after_field(text))
 }

@@ -7,7 +7,7 @@ ghost use Rattle.chip_base.specs.declared.chip_unit.ChipUnit.TheVariants.{Uart0,
 ghost use Rattle.chip_base.specs.declared.script.UartStep.TheVariants.{Send};
 ghost use Rattle.script_text.specs.ScriptFile.{script_of};
 ghost use Rattle.text_fields.specs.QuotedMeaning.{stands_alone};
-ghost use Rattle.script_text.specs.ScriptText.{ended, has_bytes, is_byte, level_text, pin_line, quoted_byte, script_text, step_line, step_text};
+ghost use Rattle.script_text.specs.ScriptText.{has_bytes, is_byte, level_text, pin_line, quoted_byte, script_text, step_line, step_text, terminated};
 
 use chip_base::{Bytes, ChipUnit, NoMemory, PinStep, Script, UartStep};
 use std::alloc::{AllocError, Global};
@@ -28,7 +28,7 @@ fn print_number(
 /// Appends a pin's level and the end of its line.
 #[tactic(auto, unfolding(crate::specs::ScriptText::level_text))]
 fn print_level(out: &mut Vec<u8>, level: bool) -> Result<(), AllocError>
-    ensures { IfOk result (λ _. out.new.items ≡ out.old.items ++ ended (level_text level)) }
+    ensures { IfOk result (λ _. out.new.items ≡ out.old.items ++ terminated (level_text level)) }
 {
     if level {
         out.extend_from_slice(b" 1\n")

@@ -7,7 +7,7 @@ ghost use Rattle.soc_bus.specs.declared.arbiter.Master.TheVariants.{Core0, Core1
 use std::marker::Model;
 
 /// Who makes accesses.
-#[derive(Clone, Copy, Debug, PartialEq, Eq)]
+#[derive(Clone, Copy)]
 pub enum Master {
     Core0,
     Core1,
@@ -39,7 +39,7 @@ impl Master {
 }
 
 /// Serves the masters in rotation.
-#[derive(Debug, Drop)]
+#[derive(Drop)]
 pub struct Arbiter {
     last: Master,
 }

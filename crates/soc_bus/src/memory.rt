@@ -18,7 +18,7 @@ pub(crate) const DMEM: u32 = 0x8000_0000;
 
 /// The instruction memory from address 0 on and the data memory from address 80000000 (hexadecimal) on, seen as their bytes.
 /// Words stand with their low byte first.
-#[derive(Debug, Drop)]
+#[derive(Drop)]
 pub struct Memory {
     imem: Vec<u32>,
     dmem: Vec<u32>,

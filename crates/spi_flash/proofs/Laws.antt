@@ -16,9 +16,9 @@ use Rattle.spi_flash.specs.declared.transfer.Transfer.TheVariants.{Idle, Ignored
 use Rattle.spi_flash.specs.declared.transfer.Operation.{Operation}
 use Rattle.spi_flash.specs.declared.transfer.Operation.TheVariants.{Program as Programs, Erase}
 use Rattle.spi_flash.specs.declared.transfer.UnderWay.{UnderWay}
-use Rattle.spi_flash.specs.Flash.{FlashState, answer_of, byte_of, byte_sent, cells_of, commanded, done_by, flash_cycle, flash_size, operation_of, selected, started, status_of, time_of, worked}
-use Rattle.spi_flash.specs.SpiCycle.{SpiState, appended, engine, set_in, spi_cycle}
-use Rattle.spi_flash.specs.Laws.{AnswersInTime, BeginsAtOnce, DisablesAtEnd, HoldsOfAnswers, HoldsOfByte, HoldsOfCycle, HoldsOfSelection, HoldsOfTime, Identifies, IgnoresCycles, IgnoresWhileBusy, bytes_among, KeepsCells, NoReset, OnlyClears, OnlyErases, OnlyListens, ReadsOn, StartsWhereEnabled, TakesItsTime, TellsStatus, cycled, later, after_bytes, unit_after}
+use Rattle.spi_flash.specs.Flash.{FlashState, byte_of, byte_sent, cells_of, commanded, done_by, flash_answer, flash_cycle, flash_size, operation_of, selected, started, status_of, time_of, worked}
+use Rattle.spi_flash.specs.SpiCycle.{SpiState, engine, queued, set_in, spi_cycle}
+use Rattle.spi_flash.specs.Laws.{AnswersInTime, BeginsAtOnce, DisablesAtEnd, HoldsOfAnswers, HoldsOfByte, HoldsOfCycle, HoldsOfSelection, HoldsOfTime, Identifies, IgnoresCycles, IgnoresWhileBusy, bytes_among, KeepsCells, NoReset, OnlyClears, OnlyErases, OnlyListens, ReadsOn, StartsWhereEnabled, TakesItsTime, TellsStatus, cycled, later, after_bytes, spi_after}
 use Rattle.spi_flash.proofs.Cells.{cells_at}
 
 either : (P : ℕ → Type 0) (b : Bool) (x y : ℕ) → P x → P y → P (if b then x else y)
@@ -202,7 +202,7 @@ ignored_later f (None ∷ more) s =
 ignored_later f (Some byte ∷ more) s =
     ignored_later (byte_sent f byte) more (rw (s.fitted, s.transfer) record { fitted = refl; transfer = refl })
 
-ignores_from : (g : FlashState) → IsIgnored g → (answer_of g ≡ 255) × (selected g false ≡ record g { transfer = Idle })
+ignores_from : (g : FlashState) → IsIgnored g → (flash_answer g ≡ 255) × (selected g false ≡ record g { transfer = Idle })
 ignores_from g s = (rw (s.fitted, s.transfer) refl, rw (s.fitted, s.transfer) refl)
 
 ignores_while_busy : (f : FlashState) (byte : ℕ) → IgnoresWhileBusy f byte
@@ -243,7 +243,7 @@ status_later f (None ∷ more) s =
     (record { fitted = (leaves f).fitted ∙ s.fitted; count = s.count; address = s.address; transfer = (leaves f).transfer ∙ s.transfer })
 status_later f (Some byte ∷ more) s = status_later (byte_sent f byte) more (status_sent f byte s)
 
-status_from : (g : FlashState) → IsStatus g → answer_of g ≡ status_of g
+status_from : (g : FlashState) → IsStatus g → flash_answer g ≡ status_of g
 status_from g s = rw (s.fitted, s.transfer) refl
 
 status_heard : (busy : Bool) → IsStatusCommand (if busy && not (0x05 == 0x05) then Ignored else Command 0x05 0 0)
@@ -265,18 +265,18 @@ one_further : (n m k : ℕ) → (n + 1 + k) % m ≡ (n + suc k) % m
 one_further n m k = let e : n + 1 + k ≡ n + suc k = omega arith in ap (λ x. x % m) e
 
 reads_from : (cells : List ℕ) (enable : Bool) (at : ℕ) (more : List ℕ)
-    → answer_of (after_bytes (flash_at cells enable (Read (at % flash_size))) more) ≡ byte_of cells ((at + length more) % flash_size)
+    → flash_answer (after_bytes (flash_at cells enable (Read (at % flash_size))) more) ≡ byte_of cells ((at + length more) % flash_size)
 reads_from cells enable at [] = let e : at ≡ at + 0 = omega arith in ap (λ n. byte_of cells (n % flash_size)) e
 reads_from cells enable at (byte ∷ more) =
     let next : (at % flash_size + 1) % flash_size ≡ (at + 1) % flash_size = mod-add-mod at flash_size 1 in
-    ap (λ n. answer_of (after_bytes (flash_at cells enable (Read n)) more)) next ∙ reads_from cells enable (at + 1) more
+    ap (λ n. flash_answer (after_bytes (flash_at cells enable (Read n)) more)) next ∙ reads_from cells enable (at + 1) more
     ∙ ap (byte_of cells) (one_further at flash_size (length more))
 
 three_bytes : (a b c n : ℕ) → (((0 * 256 + a) * 256 + b) * 256 + c) + n ≡ a * 65536 + b * 256 + c + n
 three_bytes a b c n = omega arith
 
 reads_at : (cells : List ℕ) (enable : Bool) (a b c : ℕ) (more : List ℕ)
-    → answer_of (after_bytes (flash_at cells enable Opened) (0x03 ∷ a ∷ b ∷ c ∷ more)) ≡ byte_of cells ((a * 65536 + b * 256 + c + length more) % flash_size)
+    → flash_answer (after_bytes (flash_at cells enable Opened) (0x03 ∷ a ∷ b ∷ c ∷ more)) ≡ byte_of cells ((a * 65536 + b * 256 + c + length more) % flash_size)
 reads_at cells enable a b c more =
     reads_from cells enable (((0 * 256 + a) * 256 + b) * 256 + c) more ∙ ap (λ n. byte_of cells (n % flash_size)) (three_bytes a b c (length more))
 
@@ -289,12 +289,12 @@ reads_on f = reads_of f.fitted f.cells f.enable f.transfer f.work
 
 -- the name
 
-named_from : (cells : List ℕ) (enable : Bool) (address : ℕ) (more : List ℕ) → answer_of (after_bytes (flash_at cells enable (Command 0x9f 3 address)) more) ≡ 0
+named_from : (cells : List ℕ) (enable : Bool) (address : ℕ) (more : List ℕ) → flash_answer (after_bytes (flash_at cells enable (Command 0x9f 3 address)) more) ≡ 0
 named_from cells enable address [] = refl
 named_from cells enable address (byte ∷ more) = named_from cells enable address more
 
 named_at : (cells : List ℕ) (enable : Bool) (more : List ℕ)
-    → answer_of (after_bytes (flash_at cells enable Opened) (0x9f ∷ more)) ≡ get_or (0xef ∷ 0x40 ∷ 0x17 ∷ []) (length more) 0
+    → flash_answer (after_bytes (flash_at cells enable Opened) (0x9f ∷ more)) ≡ get_or (0xef ∷ 0x40 ∷ 0x17 ∷ []) (length more) 0
 named_at cells enable [] = refl
 named_at cells enable (a ∷ []) = refl
 named_at cells enable (a ∷ b ∷ []) = refl
@@ -332,7 +332,7 @@ runs_if : (byte left : ℕ) (flash : FlashState) (b : Bool) (s t : SpiState) →
 runs_if byte left flash true s t p q = p
 runs_if byte left flash false s t p q = q
 
-runs_appended : (byte left : ℕ) (flash : FlashState) (s : SpiState) (entry : Entry) → Runs byte left flash s → Runs byte left flash (appended s entry)
+runs_appended : (byte left : ℕ) (flash : FlashState) (s : SpiState) (entry : Entry) → Runs byte left flash s → Runs byte left flash (queued s entry)
 runs_appended byte left flash s entry r =
     runs_if byte left flash (nat_lt (length s.queue) 16) _ _
     (record { rest = r.rest ++ entry ∷ []; queue = ap (λ q. q ++ entry ∷ []) r.queue; left_is = r.left_is; flash_is = r.flash_is }) r
@@ -371,22 +371,22 @@ cycle_goes_on s byte left flash now (Some Reset) l n r = absurd (omega (arith, n
 cycle_goes_on s byte left flash now (Some (Set reg word)) l n r = goes_on (set_in s reg word) byte left flash l (runs_set byte (left + 1) flash s reg word r)
 
 answers_at : (enabled : Bool) (time byte left : ℕ) (queue rest : List Entry) (flash : FlashState) → queue ≡ Byte byte ∷ rest → left ≡ 1
-    → (engine (record { enabled = enabled; time = time; queue = queue; left = left; flash = flash })).up ≡ Some (with_word credit_up (answer_of (flash_cycle flash)))
+    → (engine (record { enabled = enabled; time = time; queue = queue; left = left; flash = flash })).up ≡ Some (with_word credit_up (flash_answer (flash_cycle flash)))
 answers_at enabled time byte left queue rest flash q e = rw (q, e) refl
 
-answers_now : (s : SpiState) (byte : ℕ) (flash : FlashState) → Runs byte 1 flash s → (engine s).up ≡ Some (with_word credit_up (answer_of (flash_cycle flash)))
+answers_now : (s : SpiState) (byte : ℕ) (flash : FlashState) → Runs byte 1 flash s → (engine s).up ≡ Some (with_word credit_up (flash_answer (flash_cycle flash)))
 answers_now s byte flash r =
-    answers_at s.enabled s.time byte s.left s.queue r.rest s.flash r.queue r.left_is ∙ ap (λ f. Some (with_word credit_up (answer_of (flash_cycle f)))) r.flash_is
+    answers_at s.enabled s.time byte s.left s.queue r.rest s.flash r.queue r.left_is ∙ ap (λ f. Some (with_word credit_up (flash_answer (flash_cycle f)))) r.flash_is
 
 cycle_answers : (s : SpiState) (byte : ℕ) (now : ℕ) (down : Option Down) → reset_in down ≡ 0 → Runs byte 1 s.flash s
-    → (spi_cycle s now down).up ≡ Some (with_word credit_up (answer_of (flash_cycle s.flash)))
+    → (spi_cycle s now down).up ≡ Some (with_word credit_up (flash_answer (flash_cycle s.flash)))
 unfolding spi_cycle
 cycle_answers s byte now None n r = answers_now s byte s.flash r
 cycle_answers s byte now (Some Reset) n r = absurd (omega (arith, n))
 cycle_answers s byte now (Some (Set reg word)) n r = answers_now (set_in s reg word) byte s.flash (runs_set byte 1 s.flash s reg word r)
 
 still_runs : (s : SpiState) (byte left : ℕ) (before : List (Option Down)) → length before < left → NoReset before → Runs byte left s.flash s
-    → Runs byte (left - length before) (unit_after s before).flash (unit_after s before)
+    → Runs byte (left - length before) (spi_after s before).flash (spi_after s before)
 still_runs s byte left [] l n r = let e : left ≡ left - 0 = omega arith in subst (λ k. Runs byte k s.flash s) e r
 still_runs s byte left (down ∷ more) l n r =
     let one : left ≡ left - 1 + 1 = omega (arith, l) in
@@ -395,25 +395,25 @@ still_runs s byte left (down ∷ more) l n r =
     let less : length more < left - 1 = omega (arith, l) in
     let rest = still_runs (spi_cycle s 0 down).unit byte (left - 1) more less n.1 next.unit in
     let e : left - 1 - length more ≡ left - suc (length more) = omega arith in
-    subst (λ k. Runs byte k (unit_after s (down ∷ more)).flash (unit_after s (down ∷ more))) e rest
+    subst (λ k. Runs byte k (spi_after s (down ∷ more)).flash (spi_after s (down ∷ more))) e rest
 
 answers_in_time : (s : SpiState) → AnswersInTime s
 answers_in_time s byte rest q p before last now n l = (early, in_time)
   where
-    runs : length before < s.left → Runs byte (s.left - length before) (unit_after s before).flash (unit_after s before)
+    runs : length before < s.left → Runs byte (s.left - length before) (spi_after s before).flash (spi_after s before)
     runs less = still_runs s byte s.left before less n (record { rest = rest; queue = q; left_is = refl; flash_is = refl })
 
-    early : length before + 1 < s.left → (spi_cycle (unit_after s before) now last).up ≡ None
+    early : length before + 1 < s.left → (spi_cycle (spi_after s before) now last).up ≡ None
     early less =
         let e : s.left - length before ≡ s.left - length before - 1 + 1 = omega (arith, less) in
-        let r = subst (λ k. Runs byte k (unit_after s before).flash (unit_after s before)) e (runs (omega (arith, less))) in
-        (cycle_goes_on (unit_after s before) byte (s.left - length before - 1) (unit_after s before).flash now last (omega (arith, less)) l r).up
+        let r = subst (λ k. Runs byte k (spi_after s before).flash (spi_after s before)) e (runs (omega (arith, less))) in
+        (cycle_goes_on (spi_after s before) byte (s.left - length before - 1) (spi_after s before).flash now last (omega (arith, less)) l r).up
 
-    in_time : length before + 1 ≡ s.left → (spi_cycle (unit_after s before) now last).up ≡ Some (with_word credit_up (answer_of (flash_cycle (unit_after s before).flash)))
+    in_time : length before + 1 ≡ s.left → (spi_cycle (spi_after s before) now last).up ≡ Some (with_word credit_up (flash_answer (flash_cycle (spi_after s before).flash)))
     in_time is =
         let e : s.left - length before ≡ 1 = omega (arith, is) in
-        let r = subst (λ k. Runs byte k (unit_after s before).flash (unit_after s before)) e (runs (omega (arith, is))) in
-        cycle_answers (unit_after s before) byte now last l r
+        let r = subst (λ k. Runs byte k (spi_after s before).flash (spi_after s before)) e (runs (omega (arith, is))) in
+        cycle_answers (spi_after s before) byte now last l r
 
 begins_by : (time byte : ℕ) (rest : List Entry) (flash : FlashState) (none : Bool) → (time == 0) ≡ none
     → engine (record { enabled = true; time = time; queue = Byte byte ∷ rest; left = 0; flash = flash })

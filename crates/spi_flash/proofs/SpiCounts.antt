@@ -10,7 +10,7 @@ use Rattle.chip_base.specs.declared.message.Down.TheVariants.{Reset, Set}
 use Rattle.spi_flash.specs.declared.transfer.Entry.{Entry}
 use Rattle.spi_flash.specs.declared.transfer.Entry.TheVariants.{Byte, Select}
 use Rattle.spi_flash.specs.Flash.{flash_cycle}
-use Rattle.spi_flash.specs.SpiCycle.{SpiState, appended, engine, engine_at, exchanged, running, selecting, set_in, spi_cycle}
+use Rattle.spi_flash.specs.SpiCycle.{SpiState, engine, engine_at, exchanged, queued, running, selecting, set_in, spi_cycle}
 use Rattle.spi_flash.specs.SpiCounts.{CountsQueue, KeepsEntries, entries_in}
 
 -- what the engine gives of a queue
@@ -53,8 +53,8 @@ engine_gives s = gives_engine (record s { flash = flash_cycle s.flash }) s.queue
 is_room : (n : ℕ) → n < 16 → nat_lt n 16 ≡ true
 is_room n l = grind (arith, nat_tests)
 
-appended_at : (s : SpiState) (entry : Entry) → length s.queue + 1 ≤ 16 → (appended s entry).queue ≡ s.queue ++ entry ∷ []
-appended_at s entry l = rw (is_room (length s.queue) (omega (arith, l))) refl
+queued_at : (s : SpiState) (entry : Entry) → length s.queue + 1 ≤ 16 → (queued s entry).queue ≡ s.queue ++ entry ∷ []
+queued_at s entry l = rw (is_room (length s.queue) (omega (arith, l))) refl
 
 -- the tests on a register, one after another
 data Place (reg : ℕ) : Type 0 where
@@ -74,8 +74,8 @@ EndsWith s word reg = length s.queue + entry_in at_either_data (Some (Set reg wo
 
 set_at : (s : SpiState) (reg word : ℕ) → Place reg → EndsWith s word reg
 set_at s reg word (Control e) l = rw e (sym (append-nil s.queue))
-set_at s reg word (Datum e) l = subst (EndsWith s word) (sym e) (λ m. appended_at s (Byte (word % 256)) m) l
-set_at s reg word (Selection e) l = subst (EndsWith s word) (sym e) (λ m. appended_at s (Select (word % 2 == 1)) m) l
+set_at s reg word (Datum e) l = subst (EndsWith s word) (sym e) (λ m. queued_at s (Byte (word % 256)) m) l
+set_at s reg word (Selection e) l = subst (EndsWith s word) (sym e) (λ m. queued_at s (Select (word % 2 == 1)) m) l
 set_at s reg word (Other a b c) l = rw (a, b, c) (sym (append-nil s.queue))
 
 -- an entry that finds room waits last

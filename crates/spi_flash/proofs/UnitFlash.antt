@@ -8,7 +8,7 @@ use Rattle.chip_base.specs.declared.message.Up.{Up}
 use Rattle.spi_flash.specs.declared.transfer.Entry.{Entry}
 use Rattle.spi_flash.specs.declared.transfer.Entry.TheVariants.{Byte, Select}
 use Rattle.spi_flash.specs.Flash.{FlashState, flash_cycle}
-use Rattle.spi_flash.specs.SpiCycle.{SpiState, appended, engine, engine_at, exchanged, running, selecting, set_in, spi_cycle}
+use Rattle.spi_flash.specs.SpiCycle.{SpiState, engine, engine_at, exchanged, queued, running, selecting, set_in, spi_cycle}
 use Rattle.spi_flash.specs.UnitFlash.{StepsFlash, entry_done}
 
 -- what the engine does to a flash, by the queue
@@ -54,14 +54,14 @@ same_if : (flash : FlashState) (b : Bool) (x y : SpiState) → x.flash ≡ flash
 same_if flash true x y p q = p
 same_if flash false x y p q = q
 
-appended_flash : (s : SpiState) (entry : Entry) → (appended s entry).flash ≡ s.flash
-appended_flash s entry = same_if s.flash (nat_lt (length s.queue) 16) _ _ refl refl
+queued_flash : (s : SpiState) (entry : Entry) → (queued s entry).flash ≡ s.flash
+queued_flash s entry = same_if s.flash (nat_lt (length s.queue) 16) _ _ refl refl
 
 -- a message alone does nothing to the flash
 set_flash : (s : SpiState) (reg word : ℕ) → (set_in s reg word).flash ≡ s.flash
 set_flash s reg word =
     same_if s.flash (reg == 0) _ _ refl
-    (same_if s.flash (reg == 4) _ _ (appended_flash s (Byte (word % 256))) (same_if s.flash (reg == 8) _ _ (appended_flash s (Select (word % 2 == 1))) refl))
+    (same_if s.flash (reg == 4) _ _ (queued_flash s (Byte (word % 256))) (same_if s.flash (reg == 8) _ _ (queued_flash s (Select (word % 2 == 1))) refl))
 
 -- what a cycle does to the flash
 pub steps_flash : (s : SpiState) (message : Option Down) (now : ℕ) → StepsFlash s message (spi_cycle s now message).unit (spi_cycle s now message).up

@@ -130,14 +130,14 @@ abbrev pub status_of : FlashState → ℕ
 status_of f = (if is_some f.work then 1 else 0) + (if f.enable then 2 else 0)
 
 -- the answer to a byte that comes in a transfer
-abbrev pub answer_in : ℕ → List ℕ → Transfer → ℕ
-answer_in status cells (Command code count address) = if code == 0x05 then status else if code == 0x9f then identity count else 255
-answer_in status cells (Read at) = byte_of cells at
-answer_in status cells _ = 255
+abbrev pub transfer_answer : ℕ → List ℕ → Transfer → ℕ
+transfer_answer status cells (Command code count address) = if code == 0x05 then status else if code == 0x9f then identity count else 255
+transfer_answer status cells (Read at) = byte_of cells at
+transfer_answer status cells _ = 255
 
 -- the answer to the next byte
-abbrev pub answer_of : FlashState → ℕ
-answer_of f = if f.fitted then answer_in (status_of f) f.cells f.transfer else 0
+abbrev pub flash_answer : FlashState → ℕ
+flash_answer f = if f.fitted then transfer_answer (status_of f) f.cells f.transfer else 0
 
 -- an operation loses one cycle; in its last one it is done, and write enable is gone
 abbrev pub worked : FlashState → Option UnderWay → FlashState

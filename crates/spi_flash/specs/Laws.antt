@@ -2,15 +2,15 @@
 use Rattle.std.specs.Prelude.{◌≡◌, ◌==◌, ◌≤◌, ◌<◌, ℕ, zero, suc, ◌+◌, ◌*◌, ◌/◌, ◌%◌, Bool, true, false, List, [], ◌∷◌, length, get_or, Option, None, Some, is_some}
 use Rattle.std.specs.Int.{bit_at}
 use Rattle.chip_base.specs.declared.message.Down.{Down}
-use Rattle.chip_base.specs.declared.message.Down.TheVariants.{Reset, Set}
 use Rattle.chip_base.specs.Messages.{credit_up, reset_in, with_word}
 use Rattle.spi_flash.specs.declared.transfer.Entry.{Entry}
 use Rattle.spi_flash.specs.declared.transfer.Entry.TheVariants.{Byte}
 use Rattle.spi_flash.specs.declared.transfer.Transfer.TheVariants.{Idle, Opened}
 use Rattle.spi_flash.specs.declared.transfer.Operation.{Operation}
 use Rattle.spi_flash.specs.declared.transfer.Operation.TheVariants.{Program as Programs, Erase}
-use Rattle.spi_flash.specs.Flash.{FlashState, answer_of, byte_of, byte_sent, cells_of, done_by, flash_cycle, flash_size, operation_of, selected, status_of, time_of}
-use Rattle.spi_flash.specs.SpiCycle.{SpiState, set_in, spi_cycle}
+use Rattle.spi_flash.specs.Flash.{FlashState, byte_of, byte_sent, cells_of, done_by, flash_answer, flash_cycle, flash_size, operation_of, selected, status_of, time_of}
+use Rattle.spi_flash.specs.SpiCycle.{SpiState, spi_cycle}
+use Rattle.spi_flash.specs.UnitFlash.{with_message}
 
 -- a cycle of a program sets no bit, and changes nothing outside the page
 abbrev pub OnlyClears : FlashState → Type 0
@@ -62,7 +62,7 @@ later f (Some byte ∷ more) = later (byte_sent f byte) more
 -- whatever comes after it, also once the operation has ended: each byte is answered ff, and the deselect starts nothing
 abbrev pub IgnoresWhileBusy : FlashState → ℕ → Type 0
 IgnoresWhileBusy f byte = f.fitted ≡ true → f.transfer ≡ Opened → is_some f.work ≡ true → (byte == 0x05) ≡ false → (more : List (Option ℕ))
-    → (answer_of (later (byte_sent f byte) more) ≡ 255)
+    → (flash_answer (later (byte_sent f byte) more) ≡ 255)
     × (selected (later (byte_sent f byte) more) false ≡ record (later (byte_sent f byte) more) { transfer = Idle })
 
 -- after these bytes
@@ -73,12 +73,12 @@ after_bytes f (byte ∷ more) = after_bytes (byte_sent f byte) more
 -- a read answers the bytes from its address on, one after another, and goes on at the beginning
 abbrev pub ReadsOn : FlashState → Type 0
 ReadsOn f = f.fitted ≡ true → f.transfer ≡ Opened → f.work ≡ None → (a b c : ℕ) (more : List ℕ)
-    → answer_of (after_bytes f (0x03 ∷ a ∷ b ∷ c ∷ more)) ≡ byte_of f.cells ((a * 65536 + b * 256 + c + length more) % flash_size)
+    → flash_answer (after_bytes f (0x03 ∷ a ∷ b ∷ c ∷ more)) ≡ byte_of f.cells ((a * 65536 + b * 256 + c + length more) % flash_size)
 
 -- the name is three bytes, and then 00
 abbrev pub Identifies : FlashState → Type 0
 Identifies f = f.fitted ≡ true → f.transfer ≡ Opened → f.work ≡ None → (more : List ℕ)
-    → answer_of (after_bytes f (0x9f ∷ more)) ≡ get_or (0xef ∷ 0x40 ∷ 0x17 ∷ []) (length more) 0
+    → flash_answer (after_bytes f (0x9f ∷ more)) ≡ get_or (0xef ∷ 0x40 ∷ 0x17 ∷ []) (length more) 0
 
 -- the bytes among bytes and cycles
 abbrev pub bytes_among : List (Option ℕ) → List ℕ
@@ -93,7 +93,7 @@ IgnoresCycles f = f.work ≡ None → (more : List (Option ℕ)) → later f mor
 -- each byte after the command to read the status is answered the status of its cycle, also while an operation is under way
 abbrev pub TellsStatus : FlashState → Type 0
 TellsStatus f = f.fitted ≡ true → f.transfer ≡ Opened → (more : List (Option ℕ))
-    → answer_of (later (byte_sent f 0x05) more) ≡ status_of (later (byte_sent f 0x05) more)
+    → flash_answer (later (byte_sent f 0x05) more) ≡ status_of (later (byte_sent f 0x05) more)
 
 -- no message is a Reset
 abbrev pub NoReset : List (Option Down) → Type 0
@@ -101,30 +101,24 @@ NoReset [] = Unit {0}
 NoReset (down ∷ more) = (reset_in down ≡ 0) × NoReset more
 
 -- the unit after a cycle for each of these messages
-abbrev pub unit_after : SpiState → List (Option Down) → SpiState
-unit_after s [] = s
-unit_after s (down ∷ more) = unit_after (spi_cycle s 0 down).unit more
+abbrev pub spi_after : SpiState → List (Option Down) → SpiState
+spi_after s [] = s
+spi_after s (down ∷ more) = spi_after (spi_cycle s 0 down).unit more
 
 -- a byte that runs is exchanged in the last of its cycles, whatever comes but a Reset: then the flash's answer goes up with a credit, and
 -- nothing goes up before
 abbrev pub AnswersInTime : SpiState → Type 0
 AnswersInTime s = (byte : ℕ) (rest : List Entry) → s.queue ≡ Byte byte ∷ rest → 1 ≤ s.left → (before : List (Option Down)) (last : Option Down) (now : ℕ)
     → NoReset before → reset_in last ≡ 0
-    → (length before + 1 < s.left → (spi_cycle (unit_after s before) now last).up ≡ None)
+    → (length before + 1 < s.left → (spi_cycle (spi_after s before) now last).up ≡ None)
     × (length before + 1 ≡ s.left
-    → (spi_cycle (unit_after s before) now last).up ≡ Some (with_word credit_up (answer_of (flash_cycle (unit_after s before).flash))))
-
--- the unit once a message was taken
-abbrev pub message_in : SpiState → Option Down → SpiState
-message_in s None = s
-message_in s (Some Reset) = s
-message_in s (Some (Set reg word)) = set_in s reg word
+    → (spi_cycle (spi_after s before) now last).up ≡ Some (with_word credit_up (flash_answer (flash_cycle (spi_after s before).flash))))
 
 -- a byte that stands first once the cycle's message was taken begins at once in an enabled unit where none runs, and takes the unit's time
 -- from this cycle on
 abbrev pub BeginsAtOnce : SpiState → ℕ → Option Down → Type 0
-BeginsAtOnce s now down = (byte : ℕ) (rest : List Entry) → reset_in down ≡ 0 → (message_in s down).queue ≡ Byte byte ∷ rest → (message_in s down).enabled ≡ true
-    → (message_in s down).left ≡ 0 → spi_cycle s now down ≡ spi_cycle (record (message_in s down) { left = (message_in s down).time }) now None
+BeginsAtOnce s now down = (byte : ℕ) (rest : List Entry) → reset_in down ≡ 0 → (with_message s down).queue ≡ Byte byte ∷ rest → (with_message s down).enabled ≡ true
+    → (with_message s down).left ≡ 0 → spi_cycle s now down ≡ spi_cycle (record (with_message s down) { left = (with_message s down).time }) now None
 
 -- what holds of each cycle of a flash
 pub record HoldsOfCycle (f : FlashState) : Type 0 where

@@ -7,7 +7,7 @@ use Rattle.chip_base.specs.Messages.{credit_up, done_up, with_word}
 use Rattle.chip_base.specs.Prescalers.{prescaler_of}
 use Rattle.spi_flash.specs.declared.transfer.Entry.{Entry}
 use Rattle.spi_flash.specs.declared.transfer.Entry.TheVariants.{Byte, Select}
-use Rattle.spi_flash.specs.Flash.{FlashState, answer_of, broken_off, byte_sent, flash_cycle, flash_start, selected}
+use Rattle.spi_flash.specs.Flash.{FlashState, broken_off, byte_sent, flash_answer, flash_cycle, flash_start, selected}
 
 pub record SpiState : Type 0 where
   pub enabled : Bool
@@ -28,15 +28,15 @@ abbrev pub configured : SpiState → ℕ → SpiState
 configured s control = record s { enabled = control % 2 == 1; time = byte_time control }
 
 -- one entry more; where sixteen wait it is lost
-abbrev pub appended : SpiState → Entry → SpiState
-appended s entry = if nat_lt (length s.queue) 16 then record s { queue = s.queue ++ entry ∷ [] } else s
+abbrev pub queued : SpiState → Entry → SpiState
+queued s entry = if nat_lt (length s.queue) 16 then record s { queue = s.queue ++ entry ∷ [] } else s
 
 -- after a register was set: the control word at 0, a byte at 4, the selection at 8
 abbrev pub set_in : SpiState → ℕ → ℕ → SpiState
 set_in s reg word =
     if reg == 0 then configured s word
-    else if reg == 4 then appended s (Byte (word % 256))
-    else if reg == 8 then appended s (Select (word % 2 == 1))
+    else if reg == 4 then queued s (Byte (word % 256))
+    else if reg == 8 then queued s (Select (word % 2 == 1))
     else s
 
 -- a cycle of a byte that runs: in its last one the byte is exchanged, and the answer goes up with a credit
@@ -44,7 +44,7 @@ abbrev pub exchanged : SpiState → ℕ → List Entry → ℕ → Given SpiStat
 exchanged s byte rest left =
     if left == 1 then record {
       unit = record s { queue = rest; left = 0; flash = byte_sent s.flash byte };
-      up = Some (with_word credit_up (answer_of s.flash));
+      up = Some (with_word credit_up (flash_answer s.flash));
       event = None;
     }
     else quiet (record s { left = left - 1 })

@@ -1,6 +1,6 @@
 //! The NOR flash.
 ghost use Rattle.std.specs.Prelude.{◌≡◌, ◌<◌, ◌≤◌, ◌*◌, ◌+◌, ◌%◌, ◌^◌, Bool, ℕ, true, false, None, IfOk, IfSome, is_some, if◌then◌else◌, slice_set};
-ghost use Rattle.spi_flash.specs.Flash.{addressed, answer_in, answer_of, blank, broken_off, byte_of, byte_sent, cells_of, command_in, commanded, deselected, done_by, enable_after, erase_of, flash_cycle, flash_start, followed, identity, opened, operation_of, selected, started, status_of, time_of, worked};
+ghost use Rattle.spi_flash.specs.Flash.{addressed, blank, broken_off, byte_of, byte_sent, cells_of, command_in, commanded, deselected, done_by, enable_after, erase_of, flash_answer, flash_cycle, flash_start, followed, identity, opened, operation_of, selected, started, status_of, time_of, transfer_answer, worked};
 ghost use Rattle.spi_flash.specs.Valid.{IsOperation, IsTransfer};
 ghost use Rattle.spi_flash.specs.Unasked.{AnswersUnasked, ShowsBusy};
 ghost use Rattle.spi_flash.specs.Laws.{HoldsOfAnswers, HoldsOfByte, HoldsOfCycle, HoldsOfSelection};
@@ -288,8 +288,8 @@ impl Flash {
         busy + enable
     }
 
-    fn answer_in(&self, transfer: &Transfer) -> u8
-        ensures { result ≡ answer_in (status_of self.now) self.now.cells transfer.now }
+    fn transfer_answer(&self, transfer: &Transfer) -> u8
+        ensures { result ≡ transfer_answer (status_of self.now) self.now.cells transfer.now }
     {
         match *transfer {
             Transfer::Command { code: STATUS, .. } => self.status(),
@@ -306,12 +306,12 @@ impl Flash {
     /// The answer to the next byte. A read is answered the bytes from its address on, the command for the name its three bytes and
     /// then 00, and the command for the status the status of this cycle; nothing else but ff.
     pub fn answer(&self) -> u8
-        ensures value { result ≡ answer_of self.now }
+        ensures value { result ≡ flash_answer self.now }
         ensures law { HoldsOfAnswers self.now }
         ensures unasked { AnswersUnasked self.now }
     {
         if self.is_fitted() {
-            self.answer_in(&self.transfer)
+            self.transfer_answer(&self.transfer)
         } else {
             0
         }

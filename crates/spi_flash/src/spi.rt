@@ -36,7 +36,7 @@ impl Model for Spi {
 }
 
 impl Spi {
-    ghost use Rattle.spi_flash.specs.SpiCycle.{appended, configured, reset, set_in, spi_start};
+    ghost use Rattle.spi_flash.specs.SpiCycle.{configured, queued, reset, set_in, spi_start};
 
     /// The unit at power-on, with a flash each of whose bytes is ff, or without one.
     pub fn new(alloc: Global, fitted: bool) -> Result<Spi, NoMemory>
@@ -82,7 +82,7 @@ impl Spi {
     }
 
     fn append(&mut self, entry: Entry)
-        ensures { self.new ≡ appended self.old entry }
+        ensures { self.new ≡ queued self.old entry }
     {
         if !self.queue.is_full() {
             self.queue.push(entry);

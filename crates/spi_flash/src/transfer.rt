@@ -1,7 +1,7 @@
 //! What is sent to a flash, and what it does.
 
 /// An entry of the SPI unit's queue.
-#[derive(Clone, Copy, Debug, PartialEq, Eq)]
+#[derive(Clone, Copy)]
 pub enum Entry {
     /// A byte to be exchanged with the flash.
     Byte(u8),
@@ -16,7 +16,7 @@ impl Default for Entry {
 }
 
 /// What was sent to a flash since it was selected.
-#[derive(Clone, Copy, Debug, Drop)]
+#[derive(Clone, Copy, Drop)]
 pub enum Transfer {
     /// The flash isn't selected.
     Idle,
@@ -46,7 +46,7 @@ pub enum Transfer {
 }
 
 /// What a flash does by itself, after a command.
-#[derive(Clone, Copy, Debug, Drop)]
+#[derive(Clone, Copy, Drop)]
 pub enum Operation {
     /// The bytes of the page that holds this address lose the bits that are 0 in these bytes.
     Program { address: u32, page: [u8; 256] },
@@ -55,7 +55,7 @@ pub enum Operation {
 }
 
 /// An operation, and in how many cycles it ends: it ends in the cycle in which none would be left.
-#[derive(Clone, Copy, Debug, Drop)]
+#[derive(Clone, Copy, Drop)]
 pub struct UnderWay {
     pub left: u32,
     pub operation: Operation,

@@ -3,7 +3,7 @@ use Rattle.std.proofs.Common.{◌≡◌, ◌<◌, ◌+◌, ℕ, suc, Bool, true,
 use Rattle.std.proofs.lemmas.Bool.Decides.{nat_tests}
 use Rattle.std.proofs.lemmas.Grind.{common_steps}
 use Rattle.std.specs.List.{list_all, prefix_len}
-use Rattle.text_fields.specs.Fields.{Text, after, ends_field, field, is_blank, is_part, skip}
+use Rattle.text_fields.specs.Fields.{Text, after_field, ends_field, field, is_blank, is_part, skip}
 use Rattle.text_fields.specs.Numbers.{is_digit}
 
 pub left : (a b : Bool) → (a && b) ≡ true → a ≡ true
@@ -31,8 +31,8 @@ unfolding field
 field_run w rest all over = rw (run_len w rest all over) (take_front w rest)
 
 -- and what follows it
-pub after_run : (w rest : Text) → list_all is_part w ≡ true → ends_field rest ≡ true → after (w ++ rest) ≡ skip rest
-unfolding after
+pub after_run : (w rest : Text) → list_all is_part w ≡ true → ends_field rest ≡ true → after_field (w ++ rest) ≡ skip rest
+unfolding after_field
 after_run w rest all over = rw (run_len w rest all over, drop_front w rest) refl
 
 -- a blank is passed over

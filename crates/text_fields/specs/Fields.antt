@@ -28,5 +28,5 @@ unfoldable pub field : Text → Text
 field text = take (prefix_len is_part text) text
 
 -- what follows this field and the blanks after it
-unfoldable pub after : Text → Text
-after text = skip (drop (prefix_len is_part text) text)
+unfoldable pub after_field : Text → Text
+after_field text = skip (drop (prefix_len is_part text) text)

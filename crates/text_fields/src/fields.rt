@@ -1,7 +1,7 @@
 //! Fields that blanks separate. A blank is a space or a tab.
 ghost use Rattle.std.specs.Prelude.{◌≡◌, ◌≤◌, length, drop};
 ghost use Rattle.std.specs.List.{prefix_len};
-ghost use Rattle.text_fields.specs.Fields.{after, ends_field, field, is_blank, is_part, skip};
+ghost use Rattle.text_fields.specs.Fields.{after_field, ends_field, field, is_blank, is_part, skip};
 
 /// Whether a byte separates fields.
 fn is_blank(byte: u8) -> bool
@@ -60,9 +60,9 @@ pub fn field<'a>(text: &'a [u8]) -> &'a [u8]
 }
 
 /// What follows the field at the front and the blanks after it.
-#[tactic(auto, unfolding(crate::specs::Fields::after))]
-pub fn after<'a>(text: &'a [u8]) -> &'a [u8]
-    ensures { result.now ≡ after text.entry.now }
+#[tactic(auto, unfolding(crate::specs::Fields::after_field))]
+pub fn after_field<'a>(text: &'a [u8]) -> &'a [u8]
+    ensures { result.now ≡ after_field text.entry.now }
 {
     skip(&text[part_count(text)..])
 }

@@ -5,7 +5,7 @@ use Rattle.chip_base.specs.declared.message.Down.{Down}
 use Rattle.chip_base.specs.declared.message.Down.TheVariants.{Reset, Set}
 use Rattle.chip_base.specs.Given.{Given}
 use Rattle.chip_base.specs.Messages.{reset_in}
-use Rattle.uart_lane.specs.Cycle.{begun, ended, frame_of, heard_by, may_begin, received, sent, set_in, uart_cycle}
+use Rattle.uart_lane.specs.Cycle.{begun, frame_of, frame_sent, heard_by, may_begin, received, sent, set_in, uart_cycle}
 use Rattle.uart_lane.specs.Receiving.{receive}
 use Rattle.uart_lane.specs.Script.{byte_up}
 use Rattle.uart_lane.specs.State.{UartState}
@@ -46,7 +46,7 @@ record SameSettings (s : UartState) (g : UartState) : Type 0 where
   enabled : g.enabled ≡ s.enabled
   bit : g.bit ≡ s.bit
 
-last_settings : (s : UartState) (now : ℕ) (fifo : List ℕ) → SameSettings s (ended s now fifo).unit
+last_settings : (s : UartState) (now : ℕ) (fifo : List ℕ) → SameSettings s (frame_sent s now fifo).unit
 last_settings s now [] = record { enabled = refl; bit = refl }
 last_settings s now (b ∷ rest) = record { enabled = refl; bit = refl }
 

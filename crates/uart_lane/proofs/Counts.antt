@@ -7,20 +7,20 @@ use Rattle.chip_base.specs.declared.message.Up.{Up}
 use Rattle.chip_base.specs.Messages.{data_in, credit_in, done_in}
 use Rattle.uart_lane.specs.State.{UartState}
 use Rattle.chip_base.specs.Given.{Given}
-use Rattle.uart_lane.specs.Cycle.{appended, set_in, may_begin, begun, ended, sent, heard_by, received, with_byte, uart_cycle}
+use Rattle.uart_lane.specs.Cycle.{queued, set_in, may_begin, begun, frame_sent, sent, heard_by, received, with_byte, uart_cycle}
 use Rattle.uart_lane.specs.Counts.{KeepsCount}
 
 -- the bytes in the unit and the credit that goes up
 abbrev pub counted : Given UartState → ℕ
 counted g = length g.unit.fifo + credit_in g.up
 
-ended-count : (s : UartState) (now : ℕ) (fifo : List ℕ) → fifo ≡ s.fifo → counted (ended s now fifo) ≡ length fifo
-ended-count s now [] e = let l : length s.fifo ≡ 0 = ap length (sym e) in omega arith
-ended-count s now (b ∷ rest) e = omega arith
+frame_sent-count : (s : UartState) (now : ℕ) (fifo : List ℕ) → fifo ≡ s.fifo → counted (frame_sent s now fifo) ≡ length fifo
+frame_sent-count s now [] e = let l : length s.fifo ≡ 0 = ap length (sym e) in omega arith
+frame_sent-count s now (b ∷ rest) e = omega arith
 
 sent-count_by : (s : UartState) (now : ℕ) (a b : Bool) → eqb s.left 0 ≡ a → eqb s.left 1 ≡ b → counted (sent s now) ≡ length s.fifo
 sent-count_by s now true b p q = rw p (omega arith)
-sent-count_by s now false true p q = rw (p, q) (ended-count s now s.fifo refl)
+sent-count_by s now false true p q = rw (p, q) (frame_sent-count s now s.fifo refl)
 sent-count_by s now false false p q = rw (p, q) (omega arith)
 
 pub sent-count : (s : UartState) (now : ℕ) → counted (sent s now) ≡ length s.fifo
@@ -36,8 +36,8 @@ begun-fifo s = begun-fifo_by s _ refl
 pub is_less : (a b : ℕ) → a < b → ltb a b ≡ true
 is_less a b h = grind (arith, nat_tests)
 
-appended-count : (s : UartState) (byte : ℕ) → length s.fifo < 16 → length (appended s byte).fifo ≡ length s.fifo + 1
-appended-count s byte h = rw (is_less (length s.fifo) 16 h) (length-append s.fifo (byte ∷ []))
+queued-count : (s : UartState) (byte : ℕ) → length s.fifo < 16 → length (queued s byte).fifo ≡ length s.fifo + 1
+queued-count s byte h = rw (is_less (length s.fifo) 16 h) (length-append s.fifo (byte ∷ []))
 
 pub not_four : (reg : ℕ) → eqb reg 0 ≡ true → eqb reg 4 ≡ false
 not_four reg h = grind (arith, nat_tests)
@@ -47,14 +47,14 @@ set-count_by : (s : UartState) (reg word : ℕ) (a b : Bool) → eqb reg 0 ≡ a
 set-count_by s reg word true b p q h = rw (p, not_four reg p) (omega arith)
 set-count_by s reg word false true p q h =
     let room : length s.fifo + 1 ≤ 16 = subst (λ b. length s.fifo + cond b 1 0 ≤ 16) q h in
-    rw (p, q) (appended-count s (word % 256) (omega arith))
+    rw (p, q) (queued-count s (word % 256) (omega arith))
 set-count_by s reg word false false p q h = rw (p, q) (omega arith)
 
 pub set-count : (s : UartState) (reg word : ℕ) → length s.fifo + data_in (Some (Set reg word)) ≤ 16
     → length (set_in s reg word).fifo ≡ length s.fifo + data_in (Some (Set reg word))
 set-count s reg word h = set-count_by s reg word _ _ refl refl h
 
-sent-done_in : (s : UartState) (now : ℕ) (fifo : List ℕ) → done_in (ended s now fifo).up ≡ 0
+sent-done_in : (s : UartState) (now : ℕ) (fifo : List ℕ) → done_in (frame_sent s now fifo).up ≡ 0
 sent-done_in s now [] = refl
 sent-done_in s now (b ∷ rest) = refl
 

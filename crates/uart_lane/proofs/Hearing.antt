@@ -18,7 +18,7 @@ use Rattle.uart_lane.specs.Counts.{bytes_out}
 use Rattle.uart_lane.specs.Cycle.{uart_cycle}
 use Rattle.uart_lane.specs.Hearing.{sent_in, sent_since, HearsAll, HearsItself}
 use Rattle.uart_lane.specs.Receiver.{Receiver}
-use Rattle.uart_lane.specs.Receiving.{bytes_of, current, framed, heard_with, is_sent, last_64, looked, passed, passes, ready, receive, run}
+use Rattle.uart_lane.specs.Receiving.{current, framed, heard_with, is_sent, last_64, looked, passed, passes, ready, receive, run, step_bytes}
 use Rattle.uart_lane.specs.State.{UartState, uart_start}
 use Rattle.chip_base.proofs.Runs.{after_more, after_none, given_from_zero}
 use Rattle.uart_lane.proofs.Along.{Receives, unit_receives}
@@ -66,7 +66,7 @@ one_less [] h = absurd (omega (arith, h))
 one_less (step ∷ rest) h = refl
 
 -- a step that sends a byte is a step
-has_step : (image : List ℕ) (steps : List UartStep) → 0 < length (bytes_of image (slice_get steps 0)) → 0 < length steps
+has_step : (image : List ℕ) (steps : List UartStep) → 0 < length (step_bytes image (slice_get steps 0)) → 0 < length steps
 has_step image [] h = absurd (omega (arith, h))
 has_step image (step ∷ rest) h = omega arith
 
@@ -77,7 +77,7 @@ passes_step r now (Some step) e h = slice_get_within r.steps 0 step e
 -- while a frame runs, the current step is one that sends bytes
 
 abbrev pub SendsWhileRunning : Receiver → Type 0
-SendsWhileRunning r = 0 < r.left → 0 < length (bytes_of r.image (current r))
+SendsWhileRunning r = 0 < r.left → 0 < length (step_bytes r.image (current r))
 
 run_sends : (r : Receiver) (a b c : Bool) → eqb r.left 0 ≡ a → eqb r.left 1 ≡ b → is_sent r ≡ c → SendsWhileRunning r → SendsWhileRunning (run r).receiver
 run_sends r true b c p q h s = rw p s
@@ -85,11 +85,11 @@ run_sends r false true true p q h s = rw (p, q, h) (λ l. absurd (omega (arith, 
 run_sends r false true false p q h s = rw (p, q, h) (λ l. absurd (omega (arith, l)))
 run_sends r false false c p q h s = rw (p, q) (λ l. s (is_some_left r.left p))
 
-framed_sends : (r : Receiver) (frame : ℕ) (byte : Option ℕ) → slice_get (bytes_of r.image (current r)) r.begun_bytes ≡ byte → SendsWhileRunning r
+framed_sends : (r : Receiver) (frame : ℕ) (byte : Option ℕ) → slice_get (step_bytes r.image (current r)) r.begun_bytes ≡ byte → SendsWhileRunning r
     → SendsWhileRunning (framed r frame byte)
 framed_sends r frame None e s = s
 framed_sends r frame (Some byte) e s = λ l.
-    let w : r.begun_bytes < length (bytes_of r.image (current r)) = slice_get_within (bytes_of r.image (current r)) r.begun_bytes byte e in omega (arith, w)
+    let w : r.begun_bytes < length (step_bytes r.image (current r)) = slice_get_within (step_bytes r.image (current r)) r.begun_bytes byte e in omega (arith, w)
 
 looked_sends : (r : Receiver) (now : ℕ) (enabled : Bool) (frame : ℕ) (a : Bool) → passes r now (current r) ≡ a → eqb r.left 0 ≡ true → SendsWhileRunning r
     → SendsWhileRunning (looked r now enabled frame)
@@ -125,11 +125,11 @@ run_either r false true true p q h s = rw (p, q, h) (inr (one_less r.steps (s (i
 run_either r false true false p q h s = rw (p, q, h) (inl (refl, refl))
 run_either r false false c p q h s = rw (p, q) (inl (refl, refl))
 
-framed_either : (r : Receiver) (frame : ℕ) (byte : Option ℕ) → slice_get (bytes_of r.image (current r)) r.begun_bytes ≡ byte → eqb r.left 0 ≡ true
+framed_either : (r : Receiver) (frame : ℕ) (byte : Option ℕ) → slice_get (step_bytes r.image (current r)) r.begun_bytes ≡ byte → eqb r.left 0 ≡ true
     → StaysOrPasses r (run (framed r frame byte)).receiver
 framed_either r frame None e z = rw z (inl (refl, refl))
 framed_either r frame (Some byte) e z =
-    let w : r.begun_bytes < length (bytes_of r.image (current r)) = slice_get_within (bytes_of r.image (current r)) r.begun_bytes byte e in
+    let w : r.begun_bytes < length (step_bytes r.image (current r)) = slice_get_within (step_bytes r.image (current r)) r.begun_bytes byte e in
     run_either (framed r frame (Some byte)) _ _ _ refl refl refl (λ l. has_step r.image r.steps (omega (arith, w)))
 
 looked_either : (r : Receiver) (now : ℕ) (enabled : Bool) (frame : ℕ) (a : Bool) → passes r now (current r) ≡ a → eqb r.left 0 ≡ true
@@ -228,7 +228,7 @@ run_keeps s downs k (suc now) =
 -- a look at an expect step
 
 idle_at_expect : (r : Receiver) (text : List ℕ) → current r ≡ Some (Expect text) → SendsWhileRunning r → eqb r.left 0 ≡ true
-idle_at_expect r text e s = is_none_left r.left (λ l. subst (λ step. 0 < length (bytes_of r.image step)) e (s l))
+idle_at_expect r text e s = is_none_left r.left (λ l. subst (λ step. 0 < length (step_bytes r.image step)) e (s l))
 
 abbrev is_valid : Option UartStep → Bool
 is_valid None = true
@@ -250,7 +250,7 @@ looked_passes r now enabled frame p = rw p refl
 looked_waits : (r : Receiver) (now : ℕ) (enabled : Bool) (frame : ℕ) (text : List ℕ) → passes r now (current r) ≡ false → current r ≡ Some (Expect text)
     → looked r now enabled frame ≡ r
 looked_waits r now true frame text p e =
-    rw p (ap (λ step. framed r frame (slice_get (bytes_of r.image step) r.begun_bytes)) e ∙ ap (framed r frame) (nothing_at r.begun_bytes))
+    rw p (ap (λ step. framed r frame (slice_get (step_bytes r.image step) r.begun_bytes)) e ∙ ap (framed r frame) (nothing_at r.begun_bytes))
 looked_waits r now false frame text p e = rw p refl
 
 look_by : (r : Receiver) (now : ℕ) (enabled : Bool) (frame : ℕ) (text : List ℕ) (b : Bool) → passes r now (current r) ≡ b → current r ≡ Some (Expect text)
@@ -307,6 +307,7 @@ hears_itself s downs now k =
 
 -- what a unit hears in each run from power-on
 pub hears_all : (number : ℕ) (steps : List UartStep) (image : List ℕ) → HearsAll (uart_start number steps image)
+unfolding HearsAll
 hears_all number steps image v downs now =
     hears_itself (uart_start number steps image) downs now
     (run_keeps (uart_start number steps image) downs (at_power_on number steps image v) now)

@@ -5,7 +5,7 @@ use Rattle.std.proofs.lemmas.Bool.{and_parts, eqb-true}
 use Rattle.chip_base.specs.Given.{Given, quiet}
 use Rattle.chip_base.specs.declared.script.UartStep.{UartStep}
 use Rattle.uart_lane.specs.Cycle.{begun, received, sent}
-use Rattle.uart_lane.specs.Idle.{is_done, is_idle}
+use Rattle.uart_lane.specs.Idle.{is_idle, is_over}
 use Rattle.uart_lane.specs.Receiver.{Receiver}
 use Rattle.uart_lane.specs.Receiving.{receive}
 use Rattle.uart_lane.specs.State.{UartState}
@@ -42,7 +42,7 @@ rests_by number enabled bit fifo left steps image begun_bytes heard receiving by
 -- so the work of an idle unit may be passed over
 idle_rests : (s : UartState) (now : ℕ) → is_idle s ≡ true → received (sent (begun s) now) now ≡ quiet s
 idle_rests s now e =
-    let first = and_parts ((s.left == 0) && (length s.fifo == 0)) (is_done s.receiver) e in
+    let first = and_parts ((s.left == 0) && (length s.fifo == 0)) (is_over s.receiver) e in
     let sends = and_parts (s.left == 0) (length s.fifo == 0) first.0 in
     let hears = and_parts (s.receiver.left == 0) (length s.receiver.steps == 0) first.1 in
     rests_by s.number s.enabled s.bit s.fifo s.left s.receiver.steps s.receiver.image s.receiver.begun_bytes s.receiver.heard s.receiver.left s.receiver.byte now

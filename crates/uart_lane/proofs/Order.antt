@@ -6,7 +6,7 @@ use Rattle.chip_base.specs.declared.message.Down.TheVariants.{Reset, Set}
 use Rattle.chip_base.specs.Messages.{data_in}
 use Rattle.uart_lane.specs.State.{UartState}
 use Rattle.chip_base.specs.Given.{Given}
-use Rattle.uart_lane.specs.Cycle.{set_in, begun, ended, sent, uart_cycle}
+use Rattle.uart_lane.specs.Cycle.{set_in, begun, frame_sent, sent, uart_cycle}
 use Rattle.uart_lane.specs.Counts.{bytes_in, bytes_out, KeepsOrder}
 use Rattle.uart_lane.proofs.Counts.{begun-fifo, is_less, not_four}
 
@@ -14,13 +14,13 @@ use Rattle.uart_lane.proofs.Counts.{begun-fifo, is_less, not_four}
 abbrev pub told : Given UartState → List ℕ
 told g = bytes_out g.event ++ g.unit.fifo
 
-ended-told : (s : UartState) (now : ℕ) (fifo : List ℕ) → fifo ≡ s.fifo → told (ended s now fifo) ≡ fifo
-ended-told s now [] e = sym e
-ended-told s now (b ∷ rest) e = refl
+frame_sent-told : (s : UartState) (now : ℕ) (fifo : List ℕ) → fifo ≡ s.fifo → told (frame_sent s now fifo) ≡ fifo
+frame_sent-told s now [] e = sym e
+frame_sent-told s now (b ∷ rest) e = refl
 
 sent-told_by : (s : UartState) (now : ℕ) (a b : Bool) → eqb s.left 0 ≡ a → eqb s.left 1 ≡ b → told (sent s now) ≡ s.fifo
 sent-told_by s now true b p q = rw p refl
-sent-told_by s now false true p q = rw (p, q) (ended-told s now s.fifo refl)
+sent-told_by s now false true p q = rw (p, q) (frame_sent-told s now s.fifo refl)
 sent-told_by s now false false p q = rw (p, q) refl
 
 pub sent-told : (s : UartState) (now : ℕ) → told (sent s now) ≡ s.fifo

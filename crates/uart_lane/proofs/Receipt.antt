@@ -11,9 +11,9 @@ use Rattle.chip_base.specs.Messages.{reset_in}
 use Rattle.chip_base.specs.Runs.{given_after, unit_after}
 use Rattle.chip_base.proofs.Runs.{after_more, after_none}
 use Rattle.uart_lane.specs.Cycle.{frame_of, uart_cycle}
-use Rattle.uart_lane.specs.Receipt.{byte_at, HasNext, LetsReceive, ReceivesInTime}
+use Rattle.uart_lane.specs.Receipt.{received_in, HasNext, LetsReceive, ReceivesInTime}
 use Rattle.uart_lane.specs.Receiver.{Receiver}
-use Rattle.uart_lane.specs.Receiving.{Received, bytes_of, current, framed, heard_with, is_sent, looked, passes, ready, receive, run}
+use Rattle.uart_lane.specs.Receiving.{Received, current, framed, heard_with, is_sent, looked, passes, ready, receive, run, step_bytes}
 use Rattle.uart_lane.specs.Script.{byte_up}
 use Rattle.uart_lane.specs.State.{UartState}
 use Rattle.uart_lane.proofs.Along.{Receives, unit_receives, unit_receives_so}
@@ -28,8 +28,8 @@ is_same a b h = grind (arith, nat_tests)
 
 -- a step with a byte left doesn't pass at a look
 
-has_left : (r : Receiver) (byte : ℕ) → slice_get (bytes_of r.image (current r)) r.begun_bytes ≡ Some byte → is_sent r ≡ false
-has_left r byte e = not_at_most (length (bytes_of r.image (current r))) r.begun_bytes (slice_get_within (bytes_of r.image (current r)) r.begun_bytes byte e)
+has_left : (r : Receiver) (byte : ℕ) → slice_get (step_bytes r.image (current r)) r.begun_bytes ≡ Some byte → is_sent r ≡ false
+has_left r byte e = not_at_most (length (step_bytes r.image (current r))) r.begun_bytes (slice_get_within (step_bytes r.image (current r)) r.begun_bytes byte e)
 
 stays_by : (r : Receiver) (now : ℕ) (b : Bool) → passes r now (current r) ≡ b → is_sent r ≡ false → passes r now (current r) ≡ false
 stays_by r now true p h = absurd (false≢true (sym h ∙ look_sent r now _ refl p))
@@ -55,15 +55,15 @@ run_last r h =
     rw (e0, e1) refl
 
 looked_begins : (r : Receiver) (now frame byte : ℕ) → passes r now (current r) ≡ false
-    → slice_get (bytes_of r.image (current r)) r.begun_bytes ≡ Some byte → looked r now true frame ≡ framed r frame (Some byte)
+    → slice_get (step_bytes r.image (current r)) r.begun_bytes ≡ Some byte → looked r now true frame ≡ framed r frame (Some byte)
 looked_begins r now frame byte p e = rw p (ap (framed r frame) e)
 
-ready_begins : (r : Receiver) (now frame byte : ℕ) → r.left ≡ 0 → slice_get (bytes_of r.image (current r)) r.begun_bytes ≡ Some byte
+ready_begins : (r : Receiver) (now frame byte : ℕ) → r.left ≡ 0 → slice_get (step_bytes r.image (current r)) r.begun_bytes ≡ Some byte
     → ready r now true frame ≡ framed r frame (Some byte)
 ready_begins r now frame byte z e =
     ready_on r now true frame (is_same r.left 0 z) ∙ looked_begins r now frame byte (stays_by r now _ refl (has_left r byte e)) e
 
-begins : (r : Receiver) (now frame byte : ℕ) → r.left ≡ 0 → slice_get (bytes_of r.image (current r)) r.begun_bytes ≡ Some byte → 1 < frame
+begins : (r : Receiver) (now frame byte : ℕ) → r.left ≡ 0 → slice_get (step_bytes r.image (current r)) r.begun_bytes ≡ Some byte → 1 < frame
     → RunsOn (run (ready r now true frame)) (frame - 1) byte
 begins r now frame byte z e h =
     subst (λ q. RunsOn (run q) (frame - 1) byte) (sym (ready_begins r now frame byte z e)) (run_on (framed r frame (Some byte)) h)
@@ -79,7 +79,7 @@ gives_up r now enabled frame h =
 -- whatever is heard in the cycle
 
 receive_begins : (r : Receiver) (now : ℕ) (event : Option Event) (frame byte : ℕ) → r.left ≡ 0
-    → slice_get (bytes_of r.image (current r)) r.begun_bytes ≡ Some byte → 1 < frame → RunsOn (receive r now event true frame) (frame - 1) byte
+    → slice_get (step_bytes r.image (current r)) r.begun_bytes ≡ Some byte → 1 < frame → RunsOn (receive r now event true frame) (frame - 1) byte
 unfolding receive
 receive_begins r now None frame byte z e h = begins r now frame byte z e h
 receive_begins r now (Some event) frame byte z e h = begins (heard_with r (Some event)) now frame byte z e h
@@ -145,7 +145,7 @@ runs_on s byte n p t downs l (suc k) h =
     record { left = next.left ∙ omega (arith, left); byte = next.byte ∙ same; none = next.none }
 
 comes_at : (s : UartState) (byte : ℕ) → HasNext s byte → 0 < s.bit → (t : ℕ) (downs : ℕ → Option Down) → LetsReceive (frame_of s) t downs
-    → (k : ℕ) → k + 1 ≡ frame_of s → byte_at s t downs k ≡ byte ∷ []
+    → (k : ℕ) → k + 1 ≡ frame_of s → received_in s t downs k ≡ byte ∷ []
 comes_at s byte n p t downs l zero h = absurd (omega (arith, p, h))
 comes_at s byte n p t downs l (suc k) h =
     let before : Underway (given_after uart_cycle s t downs k) (frame_of s - (k + 1)) byte = runs_on s byte n p t downs l k (omega (arith, h)) in

@@ -12,9 +12,9 @@ use Rattle.chip_base.specs.declared.message.Up.{Up}
 use Rattle.chip_base.specs.declared.script.UartStep.{UartStep}
 use Rattle.chip_base.specs.declared.script.UartStep.TheVariants.{At, Expect, Send, Image}
 use Rattle.chip_base.specs.Given.{Given}
-use Rattle.uart_lane.specs.Cycle.{appended, begun, ended as sent_last, frame_of, heard_by, may_begin, received, sent, set_in, uart_cycle, with_byte}
+use Rattle.uart_lane.specs.Cycle.{begun, frame_of, frame_sent as sent_last, heard_by, may_begin, queued, received, sent, set_in, uart_cycle, with_byte}
 use Rattle.uart_lane.specs.Receiver.{Receiver}
-use Rattle.uart_lane.specs.Receiving.{bytes_of, current, ended, framed, heard_with, is_sent, looked, passed, passes, ready, receive, run}
+use Rattle.uart_lane.specs.Receiving.{current, frame_received, framed, heard_with, is_sent, looked, passed, passes, ready, receive, run, step_bytes}
 use Rattle.uart_lane.specs.Script.{KeepsScript, byte_up, not_begun, sent_by, to_come}
 use Rattle.uart_lane.specs.State.{UartState}
 
@@ -31,10 +31,10 @@ drop_got n bytes b h =
     drop_more bytes n b (slice_get_within bytes n b h) ∙ ap (λ x. x ∷ drop (n + 1) bytes) (get_or_from_slice_get bytes n b b h)
 
 -- where no byte of the current step is left, those of the later steps are to come
-sent_on : (image : List ℕ) (begun_bytes : ℕ) (steps : List UartStep) → leb (length (bytes_of image (slice_get steps 0))) begun_bytes ≡ true
+sent_on : (image : List ℕ) (begun_bytes : ℕ) (steps : List UartStep) → leb (length (step_bytes image (slice_get steps 0))) begun_bytes ≡ true
     → sent_by image begun_bytes steps ≡ sent_by image 0 (drop 1 steps)
 sent_on image begun_bytes [] h = refl
-sent_on image begun_bytes (step ∷ rest) h = ap (λ bytes. bytes ++ sent_by image 0 rest) (none_after begun_bytes (bytes_of image (Some step)) h)
+sent_on image begun_bytes (step ∷ rest) h = ap (λ bytes. bytes ++ sent_by image 0 rest) (none_after begun_bytes (step_bytes image (Some step)) h)
 
 pub passed_keeps : (r : Receiver) → is_sent r ≡ true → not_begun r ≡ not_begun (passed r)
 passed_keeps r h = sent_on r.image r.begun_bytes r.steps h
@@ -51,10 +51,10 @@ look_sent r now (Some (Send text)) e h = h
 look_sent r now (Some Image) e h = h
 
 -- a byte whose frame begins is the first of those that had none
-framed_on : (image : List ℕ) (begun_bytes byte : ℕ) (steps : List UartStep) → slice_get (bytes_of image (slice_get steps 0)) begun_bytes ≡ Some byte
+framed_on : (image : List ℕ) (begun_bytes byte : ℕ) (steps : List UartStep) → slice_get (step_bytes image (slice_get steps 0)) begun_bytes ≡ Some byte
     → sent_by image begun_bytes steps ≡ byte ∷ sent_by image (begun_bytes + 1) steps
 framed_on image begun_bytes byte [] h = absurd (false≢true (ap is_some h))
-framed_on image begun_bytes byte (step ∷ rest) h = ap (λ bytes. bytes ++ sent_by image 0 rest) (drop_got begun_bytes (bytes_of image (Some step)) byte h)
+framed_on image begun_bytes byte (step ∷ rest) h = ap (λ bytes. bytes ++ sent_by image 0 rest) (drop_got begun_bytes (step_bytes image (Some step)) byte h)
 
 -- the parts of a receiver's cycle
 
@@ -66,7 +66,7 @@ pub not_zero : (n : ℕ) → 0 < n → eqb n 0 ≡ false
 not_zero n h = grind (arith, nat_tests)
 
 framed_keeps : (r : Receiver) (frame : ℕ) (byte : Option ℕ) → eqb r.left 0 ≡ true → 0 < frame
-    → slice_get (bytes_of r.image (current r)) r.begun_bytes ≡ byte → to_come (framed r frame byte) ≡ to_come r
+    → slice_get (step_bytes r.image (current r)) r.begun_bytes ≡ byte → to_come (framed r frame byte) ≡ to_come r
 framed_keeps r frame None z f e = refl
 framed_keeps r frame (Some byte) z f e = rw (not_zero frame f, z) (sym (framed_on r.image r.begun_bytes byte r.steps e))
 
@@ -87,9 +87,9 @@ ready_keeps : (r : Receiver) (now : ℕ) (enabled : Bool) (frame : ℕ) (a : Boo
 ready_keeps r now enabled frame true z f = ap to_come (ready_on r now enabled frame z) ∙ looked_keeps r now enabled frame _ refl z f
 ready_keeps r now enabled frame false z f = ap to_come (ready_off r now enabled frame z)
 
-ended_keeps : (r : Receiver) (a : Bool) → is_sent r ≡ a → to_come (ended r) ≡ not_begun r
-ended_keeps r true h = rw h (sym (passed_keeps r h))
-ended_keeps r false h = rw h refl
+frame_received_keeps : (r : Receiver) (a : Bool) → is_sent r ≡ a → to_come (frame_received r) ≡ not_begun r
+frame_received_keeps r true h = rw h (sym (passed_keeps r h))
+frame_received_keeps r false h = rw h refl
 
 pub still_runs : (n : ℕ) → eqb n 0 ≡ false → eqb n 1 ≡ false → eqb (n - 1) 0 ≡ false
 still_runs n p q = grind (arith, nat_tests)
@@ -100,7 +100,7 @@ run_off r z = rw z refl
 run_keeps : (r : Receiver) (a b : Bool) → eqb r.left 0 ≡ a → eqb r.left 1 ≡ b
     → to_come r ≡ option_to_list (run r).byte ++ to_come (run r).receiver
 run_keeps r true b p q = subst (λ g. to_come r ≡ option_to_list g.byte ++ to_come g.receiver) (sym (run_off r p)) refl
-run_keeps r false true p q = rw (p, q) (ap (λ bytes. r.byte ∷ bytes) (sym (ended_keeps r _ refl)))
+run_keeps r false true p q = rw (p, q) (ap (λ bytes. r.byte ∷ bytes) (sym (frame_received_keeps r _ refl)))
 run_keeps r false false p q = rw (p, q, still_runs r.left p q) refl
 
 pub receive_keeps : (r : Receiver) (now : ℕ) (event : Option Event) (enabled : Bool) (frame : ℕ) → 0 < frame
@@ -136,9 +136,9 @@ look_steps : (r : Receiver) (now : ℕ) (enabled : Bool) (frame : ℕ) (a : Bool
     → PassesOne r.steps (run (looked r now enabled frame)).receiver.steps
 look_steps r now enabled frame true p z = inr (rw p (run_idle (passed r) z))
 look_steps r now true frame false p z =
-    rw p (subst (λ steps. PassesOne steps (run (framed r frame (slice_get (bytes_of r.image (current r)) r.begun_bytes))).receiver.steps)
-    (framed_steps r frame (slice_get (bytes_of r.image (current r)) r.begun_bytes))
-    (run_steps (framed r frame (slice_get (bytes_of r.image (current r)) r.begun_bytes)) _ _ _ refl refl refl))
+    rw p (subst (λ steps. PassesOne steps (run (framed r frame (slice_get (step_bytes r.image (current r)) r.begun_bytes))).receiver.steps)
+    (framed_steps r frame (slice_get (step_bytes r.image (current r)) r.begun_bytes))
+    (run_steps (framed r frame (slice_get (step_bytes r.image (current r)) r.begun_bytes)) _ _ _ refl refl refl))
 look_steps r now false frame false p z = rw p (run_steps r _ _ _ refl refl refl)
 
 ready_steps : (r : Receiver) (now : ℕ) (enabled : Bool) (frame : ℕ) (a : Bool) → eqb r.left 0 ≡ a
@@ -187,13 +187,13 @@ byte_beside None (Some b) h = refl
 byte_beside (Some up) None h = h
 byte_beside (Some up) (Some b) h = refl
 
-appended_receiver : (s : UartState) (byte : ℕ) (a : Bool) → ltb (length s.fifo) 16 ≡ a → (appended s byte).receiver ≡ s.receiver
-appended_receiver s byte true h = rw h refl
-appended_receiver s byte false h = rw h refl
+queued_receiver : (s : UartState) (byte : ℕ) (a : Bool) → ltb (length s.fifo) 16 ≡ a → (queued s byte).receiver ≡ s.receiver
+queued_receiver s byte true h = rw h refl
+queued_receiver s byte false h = rw h refl
 
 pub set_receiver : (s : UartState) (reg word : ℕ) (a b : Bool) → eqb reg 0 ≡ a → eqb reg 4 ≡ b → (set_in s reg word).receiver ≡ s.receiver
 set_receiver s reg word true b p q = rw p refl
-set_receiver s reg word false true p q = rw (p, q) (appended_receiver s _ _ refl)
+set_receiver s reg word false true p q = rw (p, q) (queued_receiver s _ _ refl)
 set_receiver s reg word false false p q = rw (p, q) refl
 
 -- what both parts of a cycle do

@@ -19,12 +19,12 @@ abbrev pub configured : UartState → ℕ → UartState
 configured s control = record s { enabled = control % 2 == 1; bit = bit_time control }
 
 -- one byte more; where sixteen wait it is lost
-abbrev pub appended : UartState → ℕ → UartState
-appended s byte = if nat_lt (length s.fifo) 16 then record s { fifo = s.fifo ++ byte ∷ [] } else s
+abbrev pub queued : UartState → ℕ → UartState
+queued s byte = if nat_lt (length s.fifo) 16 then record s { fifo = s.fifo ++ byte ∷ [] } else s
 
 -- after a register was set: the control word at 0, a byte at 4
 abbrev pub set_in : UartState → ℕ → ℕ → UartState
-set_in s reg word = if reg == 0 then configured s word else if reg == 4 then appended s (word % 256) else s
+set_in s reg word = if reg == 0 then configured s word else if reg == 4 then queued s (word % 256) else s
 
 -- a frame is ten bits long: the start bit, eight bits of the byte, and the stop bit
 abbrev pub frame_of : UartState → ℕ
@@ -38,9 +38,9 @@ abbrev pub begun : UartState → UartState
 begun s = if may_begin s then record s { left = frame_of s } else s
 
 -- the frame's last cycle: its byte leaves
-abbrev pub ended : UartState → ℕ → List ℕ → Given UartState
-ended s now [] = quiet (record s { left = 0 })
-ended s now (byte ∷ rest) = record {
+abbrev pub frame_sent : UartState → ℕ → List ℕ → Given UartState
+frame_sent s now [] = quiet (record s { left = 0 })
+frame_sent s now (byte ∷ rest) = record {
   unit = record s { fifo = rest; left = 0 };
   up = Some credit_up;
   event = Some (record { cycle = now; unit = s.number; kind = Tx; value = byte });
@@ -48,7 +48,7 @@ ended s now (byte ∷ rest) = record {
 
 -- a frame that runs loses one cycle
 abbrev pub sent : UartState → ℕ → Given UartState
-sent s now = if s.left == 0 then quiet s else if s.left == 1 then ended s now s.fifo else quiet (record s { left = s.left - 1 })
+sent s now = if s.left == 0 then quiet s else if s.left == 1 then frame_sent s now s.fifo else quiet (record s { left = s.left - 1 })
 
 -- the received byte goes up beside what the transmitter says
 abbrev pub with_byte : Option Up → Option ℕ → Option Up

@@ -40,5 +40,5 @@ pub record HearsItself (s : UartState) (downs : ℕ → Option Down) (now : ℕ)
       else steps_before s downs now)
 
 -- from power-on, with a valid script and whatever messages
-abbrev pub HearsAll : UartState → Type 0
+unfoldable pub HearsAll : UartState → Type 0
 HearsAll s = list_all is_step s.receiver.steps ≡ true → (downs : ℕ → Option Down) (now : ℕ) → HearsItself s downs now

@@ -23,16 +23,16 @@ abbrev pub current : Receiver → Option UartStep
 current r = slice_get r.steps 0
 
 -- the bytes that a step sends
-abbrev pub bytes_of : List ℕ → Option UartStep → List ℕ
-bytes_of image None = []
-bytes_of image (Some (At cycle)) = []
-bytes_of image (Some (Expect text)) = []
-bytes_of image (Some (Send text)) = text
-bytes_of image (Some Image) = image
+abbrev pub step_bytes : List ℕ → Option UartStep → List ℕ
+step_bytes image None = []
+step_bytes image (Some (At cycle)) = []
+step_bytes image (Some (Expect text)) = []
+step_bytes image (Some (Send text)) = text
+step_bytes image (Some Image) = image
 
 -- no byte of the current step is left
 abbrev pub is_sent : Receiver → Bool
-is_sent r = nat_le (length (bytes_of r.image (current r))) r.begun_bytes
+is_sent r = nat_le (length (step_bytes r.image (current r))) r.begun_bytes
 
 -- whether a look at this step passes it
 abbrev pub passes : Receiver → ℕ → Option UartStep → Bool
@@ -55,7 +55,7 @@ framed r frame (Some byte) = record r { begun_bytes = r.begun_bytes + 1; left = 
 abbrev pub looked : Receiver → ℕ → Bool → ℕ → Receiver
 looked r now enabled frame =
     if passes r now (current r) then passed r
-    else if enabled then framed r frame (slice_get (bytes_of r.image (current r)) r.begun_bytes)
+    else if enabled then framed r frame (slice_get (step_bytes r.image (current r)) r.begun_bytes)
     else r
 
 -- the script is looked at where no frame runs
@@ -63,14 +63,14 @@ abbrev pub ready : Receiver → ℕ → Bool → ℕ → Receiver
 ready r now enabled frame = if r.left == 0 then looked r now enabled frame else r
 
 -- the frame is over; with its last byte the step passes
-abbrev pub ended : Receiver → Receiver
-ended r = if is_sent r then passed (record r { left = 0 }) else record r { left = 0 }
+abbrev pub frame_received : Receiver → Receiver
+frame_received r = if is_sent r then passed (record r { left = 0 }) else record r { left = 0 }
 
 -- a frame that runs loses one cycle, and its byte goes up in the last
 abbrev pub run : Receiver → Received
 run r =
     if r.left == 0 then record { receiver = r; byte = None }
-    else if r.left == 1 then record { receiver = ended r; byte = Some r.byte }
+    else if r.left == 1 then record { receiver = frame_received r; byte = Some r.byte }
     else record { receiver = record r { left = r.left - 1 }; byte = None }
 
 -- one cycle, in which the unit gives this event: what is heard first, then a look, then the frame

@@ -6,13 +6,13 @@ use Rattle.chip_base.specs.declared.message.Up.{Up}
 use Rattle.chip_base.specs.declared.script.UartStep.{UartStep}
 use Rattle.chip_base.specs.Messages.{reset_in}
 use Rattle.uart_lane.specs.Receiver.{Receiver}
-use Rattle.uart_lane.specs.Receiving.{bytes_of, last_64}
+use Rattle.uart_lane.specs.Receiving.{last_64, step_bytes}
 use Rattle.uart_lane.specs.State.{UartState}
 
 -- all bytes that these steps send, one step after another, without the first ones of the first step
 abbrev pub sent_by : List ℕ → ℕ → List UartStep → List ℕ
 sent_by image begun_bytes [] = []
-sent_by image begun_bytes (step ∷ rest) = drop begun_bytes (bytes_of image (Some step)) ++ sent_by image 0 rest
+sent_by image begun_bytes (step ∷ rest) = drop begun_bytes (step_bytes image (Some step)) ++ sent_by image 0 rest
 
 -- the bytes of the script that had no frame
 abbrev pub not_begun : Receiver → List ℕ

@@ -32,8 +32,8 @@ impl Model for Receiver {
 
 impl Receiver {
     ghost use Rattle.uart_lane.specs.Receiver.{at_first, dropped};
-    ghost use Rattle.uart_lane.specs.Idle.{is_done};
-    ghost use Rattle.uart_lane.specs.Receiving.{heard_with, current, bytes_of, is_sent, passes, passed, framed, looked, ready, ended, run, receive};
+    ghost use Rattle.uart_lane.specs.Idle.{is_over};
+    ghost use Rattle.uart_lane.specs.Receiving.{heard_with, current, step_bytes, is_sent, passes, passed, framed, looked, ready, frame_received, run, receive};
     ghost use Rattle.std.specs.Prelude.{slice_get};
 
     /// The receiver before the first cycle.
@@ -59,8 +59,8 @@ impl Receiver {
     }
 
     /// Whether no frame runs and no step is left.
-    pub(crate) fn is_done(&self) -> bool
-        ensures { result ≡ is_done self.now }
+    pub(crate) fn is_over(&self) -> bool
+        ensures { result ≡ is_over self.now }
     {
         self.left == 0 && self.place == self.steps.as_slice().len()
     }
@@ -79,7 +79,7 @@ impl Receiver {
 
     /// The bytes that the current step sends.
     fn bytes(&self) -> &[u8]
-        ensures { result.now ≡ bytes_of self.now.image (current self.now) }
+        ensures { result.now ≡ step_bytes self.now.image (current self.now) }
     {
         match self.steps.as_slice()[self.place..].first() {
             Some(UartStep::Send(text)) => text.as_slice(),
@@ -118,7 +118,7 @@ impl Receiver {
     }
 
     fn begin(&mut self, frame: u32)
-        ensures { self.new ≡ framed self.old frame (slice_get (bytes_of self.old.image (current self.old)) self.old.begun_bytes) }
+        ensures { self.new ≡ framed self.old frame (slice_get (step_bytes self.old.image (current self.old)) self.old.begun_bytes) }
     {
         if let Some(byte) = self.bytes().get(self.begun_bytes) {
             let byte = *byte;
@@ -147,7 +147,7 @@ impl Receiver {
     }
 
     fn end(&mut self)
-        ensures { self.new ≡ ended self.old }
+        ensures { self.new ≡ frame_received self.old }
     {
         self.left = 0;
         if self.is_sent() {

@@ -53,7 +53,7 @@ fn with_byte(up: Option<Up>, byte: Option<u8>) -> Option<Up>
 
 impl Uart {
     ghost use Rattle.uart_lane.specs.State.{uart_start, uart_reset};
-    ghost use Rattle.uart_lane.specs.Cycle.{configured, appended, set_in, frame_of, begun, ended, sent, received, reset, uart_cycle};
+    ghost use Rattle.uart_lane.specs.Cycle.{configured, queued, set_in, frame_of, begun, frame_sent, sent, received, reset, uart_cycle};
     ghost use Rattle.uart_lane.specs.Idle.{is_idle};
     ghost use Rattle.uart_lane.specs.Counts.{KeepsCount, KeepsOrder};
     ghost use Rattle.uart_lane.specs.Frames.{SendsInTime};
@@ -86,7 +86,7 @@ impl Uart {
     }
 
     fn append(&mut self, byte: u8)
-        ensures { self.new ≡ appended self.old byte }
+        ensures { self.new ≡ queued self.old byte }
     {
         if !self.fifo.is_full() {
             self.fifo.push(byte);
@@ -135,9 +135,9 @@ impl Uart {
 
     fn end(&mut self, now: Cycle) -> UnitOut
         requires { 0 < self.old.left }
-        ensures unit { self.new ≡ (ended self.old now self.old.fifo).unit }
-        ensures up { result.up ≡ (ended self.old now self.old.fifo).up }
-        ensures event { result.event ≡ (ended self.old now self.old.fifo).event }
+        ensures unit { self.new ≡ (frame_sent self.old now self.old.fifo).unit }
+        ensures up { result.up ≡ (frame_sent self.old now self.old.fifo).up }
+        ensures event { result.event ≡ (frame_sent self.old now self.old.fifo).event }
         ensures byte { IfSome result.event (λ e. e.value < 256) }
     {
         self.left = 0;
@@ -184,7 +184,7 @@ impl Uart {
     fn is_idle(&self) -> bool
         ensures { result ≡ is_idle self.now }
     {
-        self.left == 0 && self.fifo.is_empty() && self.receiver.is_done()
+        self.left == 0 && self.fifo.is_empty() && self.receiver.is_over()
     }
 
     #[inline(never)]

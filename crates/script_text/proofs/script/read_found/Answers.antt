@@ -1,7 +1,7 @@
 use Rattle.std.proofs.Common.{◌∙◌, ap, sym, arith, inl, inr, option_map, Some, Err}
 use Rattle.text_fields.specs.Lines.{left_size, lines_after}
 use Rattle.script_text.specs.ScriptFile.{read_lines}
-use Rattle.script_text.specs.ScriptRead.{script_in}
+use Rattle.script_text.specs.ScriptRead.{script_found}
 use Rattle.script_text.proofs.ReadSteps.{read_step}
 use Rattle.script_text.proofs.script.read_found.Goals as goal
 
@@ -9,7 +9,7 @@ pub returns-in-Err-clause-err : goal.returns-in-Err-clause-err
 returns-in-Err-clause-err c =
     let left = c.in-Some.left.now in
     let line = c.loop-rest.line in
-    let found = script_in c.loop-rest.found in
+    let found = script_found c.loop-rest.found in
     let this = c.cut_line.result.0.now in
     let more = lines_after (option_map (λ r. r.now) c.cut_line.result.1) in
     let m = c.loop-rest.invariant.means in
@@ -23,7 +23,7 @@ pub loop-rest-preserved : goal.loop-rest-preserved
 loop-rest-preserved c =
     let left = c.in-Some.left.now in
     let line = c.loop-rest.line in
-    let found = script_in c.loop-rest.found in
+    let found = script_found c.loop-rest.found in
     let this = c.cut_line.result.0.now in
     let more = lines_after (option_map (λ r. r.now) c.cut_line.result.1) in
     let m = c.loop-rest.invariant.means in
