@@ -5,7 +5,7 @@ use Rattle.std.specs.Int.{bit_at}
 use Rattle.chip_base.specs.Runs.{never, unit_after}
 use Rattle.chip_base.proofs.Runs.{after_more, after_none}
 use Rattle.board_units.specs.PwmState.{PwmState}
-use Rattle.board_units.specs.PwmCycle.{is_high, mask_of, counted, pwm_cycle}
+use Rattle.board_units.specs.PwmCycle.{is_high, outputs_of, counted, pwm_cycle}
 use Rattle.board_units.specs.PwmWave.{Begins, MakesWave}
 use Rattle.board_units.proofs.Compared.{is_at_most, is_later, below, not_below, is_below, is_from}
 
@@ -70,11 +70,11 @@ next-within p duties k u mask q w = next-within_by p duties k u mask _ refl q w
 abbrev alone : PwmState → ℕ → ℕ → PwmState
 alone s t k = unit_after pwm_cycle s t never k
 
-cycle-alone : (s : PwmState) (now : ℕ) → (pwm_cycle s now None).unit ≡ counted (record s { mask = mask_of s })
+cycle-alone : (s : PwmState) (now : ℕ) → (pwm_cycle s now None).unit ≡ counted (record s { mask = outputs_of s })
 unfolding pwm_cycle
 cycle-alone s now = refl
 
-next-unit : (s : PwmState) (t k : ℕ) → alone s t (suc k) ≡ counted (record (alone s t k) { mask = mask_of (alone s t k) })
+next-unit : (s : PwmState) (t k : ℕ) → alone s t (suc k) ≡ counted (record (alone s t k) { mask = outputs_of (alone s t k) })
 next-unit s t k = after_more pwm_cycle s t never k ∙ cycle-alone (alone s t k) (t + k)
 
 first-unit : (s : PwmState) (t : ℕ) → alone s t 0 ≡ s
@@ -92,7 +92,7 @@ within s t zero q b = subst (Within s.prescaler s.duties 0) (sym (first-unit s t
   in_period = subst (λ c. c < 256) (sym b.no_step) (omega arith);
 }
 within s t (suc k) q b = subst (Within s.prescaler s.duties (suc k)) (sym (next-unit s t k))
-    (next-within s.prescaler s.duties k (alone s t k) (mask_of (alone s t k)) q (within s t k q b))
+    (next-within s.prescaler s.duties k (alone s t k) (outputs_of (alone s t k)) q (within s t k q b))
 
 counted-mask_by : (u : PwmState) (on full : Bool) → u.enabled ≡ on → leb u.prescaler (u.count + 1) ≡ full → (counted u).mask ≡ u.mask
 counted-mask_by u true true p q = rw (p, q) refl
@@ -133,7 +133,7 @@ highs u (suc (suc (suc zero))) k = refl
 highs u (suc (suc (suc (suc n)))) k = absurd (omega arith)
 
 -- a channel's bit in the mask
-mask-bit : (u : PwmState) (channel : ℕ) → channel < 4 → bit_at (mask_of u) channel ≡ one (is_high u channel)
+mask-bit : (u : PwmState) (channel : ℕ) → channel < 4 → bit_at (outputs_of u) channel ≡ one (is_high u channel)
 mask-bit u channel k =
     ap (λ m. bit_at m channel) (sum-is (is_high u 0) (is_high u 1) (is_high u 2) (is_high u 3))
     ∙ bits-are (one (is_high u 0)) (one (is_high u 1)) (one (is_high u 2)) (one (is_high u 3)) channel
@@ -163,6 +163,6 @@ high-is p duties k u channel w =
 pub makes_wave : (s : PwmState) (period : ℕ) → period ≡ 256 * s.prescaler → 0 < s.prescaler → MakesWave s period
 makes_wave s period e q b t k channel h = rw e
     (ap (λ u. bit_at u.mask channel) (next-unit s t k)
-    ∙ ap (λ m. bit_at m channel) (counted-mask (record (alone s t k) { mask = mask_of (alone s t k) }))
+    ∙ ap (λ m. bit_at m channel) (counted-mask (record (alone s t k) { mask = outputs_of (alone s t k) }))
     ∙ mask-bit (alone s t k) channel h
     ∙ ap one (high-is s.prescaler s.duties k (alone s t k) channel (within s t k q b)))

@@ -6,3 +6,6 @@ pub mod Messages
 pub mod PwmCycle
 pub mod PwmState
 pub mod PwmWave
+pub mod WatchdogCycle
+pub mod WatchdogState
+pub mod WatchdogTime

@@ -37,8 +37,8 @@ abbrev pub channel_bit : PwmState → ℕ → ℕ
 channel_bit s channel = if is_high s channel then 2 ^ channel else 0
 
 -- the outputs of the four channels, as bits of a word
-abbrev pub mask_of : PwmState → ℕ
-mask_of s = channel_bit s 0 + channel_bit s 1 + channel_bit s 2 + channel_bit s 3
+abbrev pub outputs_of : PwmState → ℕ
+outputs_of s = channel_bit s 0 + channel_bit s 1 + channel_bit s 2 + channel_bit s 3
 
 -- one cycle more of the step, and the next step where the prescaler is reached
 abbrev pub counted : PwmState → PwmState
@@ -48,7 +48,7 @@ counted s =
 
 -- the outputs of this cycle, and the count after it
 abbrev pub shown : PwmState → ℕ → Given PwmState
-shown s now = record { unit = counted (record s { mask = mask_of s }); up = None; event = change_event now (unit_row Pwm).number s.mask (mask_of s) }
+shown s now = record { unit = counted (record s { mask = outputs_of s }); up = None; event = change_event now (unit_row Pwm).number s.mask (outputs_of s) }
 
 -- a Reset makes all outputs low
 abbrev pub reset : PwmState → ℕ → Given PwmState

@@ -33,7 +33,7 @@ impl Model for Pwm {
 
 impl Pwm {
     ghost use Rattle.board_units.specs.PwmState.{pwm_reset};
-    ghost use Rattle.board_units.specs.PwmCycle.{configured, with_duty, set_in, is_high, mask_of, counted, shown, reset, pwm_cycle};
+    ghost use Rattle.board_units.specs.PwmCycle.{configured, with_duty, set_in, is_high, outputs_of, counted, shown, reset, pwm_cycle};
     ghost use Rattle.board_units.specs.PwmWave.{MakesWave, RestsDisabled, StartsAtOnce};
     ghost use Rattle.board_units.specs.Laws.{AnswersResets, TellsChange};
 
@@ -99,7 +99,7 @@ impl Pwm {
     }
 
     fn mask(&self) -> u32
-        ensures { result ≡ mask_of self.now }
+        ensures { result ≡ outputs_of self.now }
     {
         self.bit(0, 1) + self.bit(1, 2) + self.bit(2, 4) + self.bit(3, 8)
     }
