@@ -10,11 +10,12 @@ use Rattle.unit_fronts.specs.Owed.{is_open_at, one_more}
 use Rattle.unit_fronts.specs.PwmFront.{pwm_after, pwm_arrived, pwm_front, pwm_front_reset}
 use Rattle.unit_fronts.specs.SerialRegisters.{SerialRegisters, serial_arrived, serial_closed, serial_front_reset}
 use Rattle.unit_fronts.specs.SerialFront.{SerialKind, serial_after, serial_front}
+use Rattle.unit_fronts.specs.WdtFront.{watchdog_after, watchdog_arrived, watchdog_front, watchdog_front_reset}
 
 -- what each call does to a closed front in its reset state
 record HoldsClosed {F : Type 0} (m : FrontMeaning F) : Type 0 where
   step : (owed : ℕ) (call : FrontCall) → answers_in call < owed → m.after (m.front_reset owed) call ≡ m.front_reset (owed - answers_in call)
-  loads : (owed : ℕ) → 0 < owed → (reg : ℕ) → m.word (m.front_reset owed) reg ≡ 0
+  loads : (owed : ℕ) → 0 < owed → (reg : ℕ) → m.word (m.front_reset owed) reg ≡ m.closed_word reg
   stores : (owed : ℕ) → 0 < owed → (reg word : ℕ) → m.sent (m.front_reset owed) reg word ≡ None
   last : (up : Up) → done_in (Some up) ≡ 1 → m.after (m.front_reset 1) (UnitSays up) ≡ m.opened up
 
@@ -131,3 +132,28 @@ pwm_holds = record {
 -- a closed front of the duties awaits its answers
 pub pwm_awaits : (owed : ℕ) → AwaitsAnswers pwm_front owed (pwm_front_reset owed)
 pwm_awaits owed = awaits pwm_front pwm_holds owed
+
+-- the watchdog
+
+watchdog_says : (owed : ℕ) (up : Up) (done : Bool) → up.done ≡ done → cond done 1 0 < owed
+    → watchdog_arrived (watchdog_front_reset owed) up ≡ watchdog_front_reset (owed - cond done 1 0)
+watchdog_says owed up true p l = rw (closed_by owed (omega (arith, l)), p) refl
+watchdog_says owed up false p l = rw p (ap watchdog_front_reset (less_none owed))
+
+watchdog_step : (owed : ℕ) (call : FrontCall) → answers_in call < owed
+    → watchdog_after (watchdog_front_reset owed) call ≡ watchdog_front_reset (owed - answers_in call)
+watchdog_step owed (LoadFrom reg) l = ap watchdog_front_reset (less_none owed)
+watchdog_step owed (StoreTo reg word) l = rw (closed_by owed l) (ap watchdog_front_reset (less_none owed))
+watchdog_step owed (UnitSays up) l = watchdog_says owed up up.done refl (omega (arith, l))
+
+watchdog_holds : HoldsClosed watchdog_front
+watchdog_holds = record {
+  step = watchdog_step;
+  loads = λ owed l reg. rw (closed_by owed l) refl;
+  stores = λ owed l reg word. rw (closed_by owed l) refl;
+  last = λ up done. rw (says_done up done) refl;
+}
+
+-- a closed front of the watchdog awaits its answers
+pub watchdog_awaits : (owed : ℕ) → AwaitsAnswers watchdog_front owed (watchdog_front_reset owed)
+watchdog_awaits owed = awaits watchdog_front watchdog_holds owed

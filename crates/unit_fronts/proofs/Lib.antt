@@ -1,3 +1,4 @@
+pub mod Cause
 pub mod ClosedFront
 pub mod Control
 pub mod Counts

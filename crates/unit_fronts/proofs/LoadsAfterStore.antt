@@ -1,11 +1,13 @@
 -- A store sets the register at its offset, and no other.
-use Rattle.std.proofs.Common.{◌≡◌, ◌⊎◌, inl, inr, ℕ, Bool, true, false, List, [], ◌∷◌, length, refl, sym, arith, subst}
+use Rattle.std.proofs.Common.{◌≡◌, ◌⊎◌, inl, inr, ◌<◌, ℕ, ◌/◌, ◌%◌, ◌^◌, bit_and, Bool, true, false, List, [], ◌∷◌, length, refl, sym, ap, ◌∙◌, arith, subst}
+use Rattle.std.proofs.lemmas.Nat.{and_mask, and_mod, and_shr}
 use Rattle.std.specs.Prelude.{◌==◌}
 use Rattle.soc_words.proofs.Registers.{apart, leaves, other_than, same_as, sets}
 use Rattle.unit_fronts.specs.GpioFront.{GpioRegisters, gpio_stored}
-use Rattle.unit_fronts.specs.LoadsAfterStore.{StoresDuties, StoresPins}
+use Rattle.unit_fronts.specs.LoadsAfterStore.{StoresDuties, StoresPins, StoresWatchdog}
 use Rattle.unit_fronts.specs.Owed.{is_open_at}
 use Rattle.unit_fronts.specs.PwmFront.{PwmRegisters, pwm_stored}
+use Rattle.unit_fronts.specs.WdtFront.{WatchdogRegisters, watchdog_kept, watchdog_stored}
 
 pins_by : (s : GpioRegisters) (reg word : ℕ) (b4 b8 b12 : Bool) → is_open_at s.owed ≡ true → (reg == 4) ≡ b4 → (reg == 8) ≡ b8 → (reg == 12) ≡ b12
     → StoresPins s reg word (gpio_stored s reg word)
@@ -92,3 +94,56 @@ duties_in control owed (d0 ∷ d1 ∷ d2 ∷ d3 ∷ d4 ∷ rest) reg word l o r 
 pub stores_duties : (s : PwmRegisters) (reg word : ℕ) (new : PwmRegisters) → new ≡ pwm_stored s reg word → length s.duties ≡ 4
     → (reg ≡ 0) ⊎ (reg ≡ 4) ⊎ (reg ≡ 8) ⊎ (reg ≡ 12) ⊎ (reg ≡ 16) → is_open_at s.owed ≡ true → StoresDuties s reg word new
 stores_duties s reg word new e l r o = subst (λ n. StoresDuties s reg word n) (sym e) (duties_in s.control s.owed s.duties reg word l o r)
+
+-- the fields of the part that the watchdog's CTRL keeps
+record KeepsWatchdog (word kept : ℕ) : Type 0 where
+  enable : kept % 2 ≡ word % 2
+  between : kept / 2 % 2 ^ 7 ≡ 0
+  timeout : kept / 2 ^ 8 ≡ word / 2 ^ 8
+
+keeps_watchdog : (word : ℕ) → word < 2 ^ 32 → KeepsWatchdog word (watchdog_kept word)
+keeps_watchdog word below = record {
+  enable =
+      let low : watchdog_kept word % 2 ^ 1 ≡ word % 2 ^ 1 % 2 ^ 1 = and_mod word 0xffffff01 1 ∙ and_mask (word % 2 ^ 1) 1 in
+      omega (arith, low);
+  between =
+      let none : watchdog_kept word / 2 ^ 1 % 2 ^ 7 ≡ bit_and (word / 2 ^ 1 % 2 ^ 7) 0
+      = ap (λ n. n % 2 ^ 7) (and_shr word 0xffffff01 1) ∙ and_mod (word / 2 ^ 1) 0x7fffff80 7 in
+      let zero_there : bit_and (word / 2 ^ 1 % 2 ^ 7) 0 ≡ word / 2 ^ 1 % 2 ^ 7 % 2 ^ 0 = and_mask (word / 2 ^ 1 % 2 ^ 7) 0 in
+      omega (arith, none, zero_there);
+  timeout =
+      let high : watchdog_kept word / 2 ^ 8 ≡ word / 2 ^ 8 % 2 ^ 24 = and_shr word 0xffffff01 8 ∙ and_mask (word / 2 ^ 8) 24 in
+      omega (arith, high, below);
+}
+
+watchdog_by : (s : WatchdogRegisters) (reg word : ℕ) (control : Bool) → is_open_at s.owed ≡ true → (reg == 0) ≡ control → word < 2 ^ 32
+    → StoresWatchdog s reg word (watchdog_stored s reg word)
+watchdog_by s reg word true o c below =
+    let k : KeepsWatchdog word (watchdog_kept word) = keeps_watchdog word below in
+    rw (o, c) record {
+      enable = λ r. rw o k.enable;
+      between = λ r. rw o k.between;
+      timeout = λ r. rw o k.timeout;
+      elsewhere = λ other. absurd (other (same_as reg 0 c));
+      feed = rw o refl;
+      cause = refl;
+    }
+watchdog_by s reg word false o c below = rw (o, c) record {
+  enable = λ r. absurd (other_than reg 0 c r);
+  between = λ r. absurd (other_than reg 0 c r);
+  timeout = λ r. absurd (other_than reg 0 c r);
+  elsewhere = λ other. refl;
+  feed = rw o refl;
+  cause = refl;
+}
+
+-- what a store does to the words of the watchdog's registers
+pub stores_watchdog : (s : WatchdogRegisters) (reg word : ℕ) (new : WatchdogRegisters) → new ≡ watchdog_stored s reg word → word < 2 ^ 32 → is_open_at s.owed ≡ true → StoresWatchdog s reg word new
+stores_watchdog s reg word new e below o = subst (λ n. StoresWatchdog s reg word n) (sym e) (watchdog_by s reg word _ o refl below)
+
+-- a store to CTRL of the watchdog's open front keeps what CTRL keeps
+pub control_of_watchdog : (s : WatchdogRegisters) (reg word : ℕ) (new : WatchdogRegisters) → is_open_at s.owed ≡ true → reg ≡ 0
+    → new ≡ record s { control = watchdog_kept word } → new ≡ watchdog_stored s reg word
+control_of_watchdog s reg word new o r e =
+    let stored : watchdog_stored s reg word ≡ record s { control = watchdog_kept word } = rw (o, r) refl in
+    e ∙ sym stored

@@ -19,7 +19,7 @@ pub marks_heard : (s : GpioRegisters) (up : Up) (new : GpioRegisters) → new �
 marks_heard s up new e d w o h = rw e record {
   pending = λ x y z pin k.
       bit_at_or s.pending (rises s.inputs up.word) pin ∙ ap (max (bit_at s.pending pin)) (cleared_pin up.word s.inputs pin h k);
-  answered = λ x. absurd (false≢true (sym d ∙ x));
+  reset_done = λ x. absurd (false≢true (sym d ∙ x));
   without_word = λ x. absurd (true≢false (sym w ∙ x));
   closed = λ x. absurd (true≢false (sym o ∙ x));
 }

@@ -9,8 +9,8 @@ pub record AwaitsAnswers {F : Type 0} (m : FrontMeaning F) (owed : ℕ) (front :
   -- until the last of them comes, no call does anything but that each answer is counted
   pub stays : (calls : List FrontCall) → answers_among calls < owed
       → after_calls m front calls ≡ m.front_reset (owed - answers_among calls)
-  -- loads give 0
-  pub loads : (calls : List FrontCall) → answers_among calls < owed → (reg : ℕ) → m.word (after_calls m front calls) reg ≡ 0
+  -- loads give the words of a closed front: 0, but for CAUSE of the watchdog
+  pub loads : (calls : List FrontCall) → answers_among calls < owed → (reg : ℕ) → m.word (after_calls m front calls) reg ≡ m.closed_word reg
   -- stores send nothing
   pub stores : (calls : List FrontCall) → answers_among calls < owed → (reg word : ℕ) → m.sent (after_calls m front calls) reg word ≡ None
   -- the last answer opens the front

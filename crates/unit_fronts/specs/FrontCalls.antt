@@ -29,6 +29,8 @@ pub record FrontMeaning (F : Type 0) : Type 0 where
   pub after : F → FrontCall → F
   -- the reset state of a front that waits for so many answers
   pub front_reset : ℕ → F
+  -- what a load of a closed front's register gives
+  pub closed_word : ℕ → ℕ
   -- the state in which the last answer opens the front
   pub opened : Up → F
 

@@ -93,5 +93,6 @@ gpio_front = record {
   sent = gpio_sent;
   after = gpio_after;
   front_reset = gpio_front_reset;
+  closed_word = λ reg. 0;
   opened = λ up. record (gpio_front_reset 0) { inputs = if up.has then up.word else 0 };
 }

@@ -10,7 +10,7 @@ pub record MarksRises (old : GpioRegisters) (up : Up) (new : GpioRegisters) : Ty
   pub pending : is_open_at old.owed ≡ true → up.done ≡ false → up.has ≡ true → (pin : ℕ) → pin < 32
       → bit_at new.pending pin ≡ max (bit_at old.pending pin) (min (bit_at up.word pin) (1 - bit_at old.inputs pin))
   -- nothing else makes a pin pending
-  pub answered : up.done ≡ true → new.pending ≡ old.pending
+  pub reset_done : up.done ≡ true → new.pending ≡ old.pending
   pub without_word : up.has ≡ false → new.pending ≡ old.pending
   pub closed : is_open_at old.owed ≡ false → new.pending ≡ old.pending
 

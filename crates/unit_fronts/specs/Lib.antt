@@ -1,3 +1,4 @@
+pub mod Cause
 pub mod ClosedFront
 pub mod Control
 pub mod Counts
@@ -12,3 +13,4 @@ pub mod SerialFront
 pub mod SerialRegisters
 pub mod SpiFront
 pub mod UartFront
+pub mod WdtFront

@@ -63,5 +63,6 @@ pwm_front = record {
   sent = pwm_sent;
   after = pwm_after;
   front_reset = pwm_front_reset;
+  closed_word = λ reg. 0;
   opened = λ up. pwm_front_reset 0;
 }

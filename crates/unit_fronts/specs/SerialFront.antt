@@ -49,5 +49,6 @@ serial_front kind = record {
   sent = serial_sent kind;
   after = serial_after kind;
   front_reset = serial_front_reset;
+  closed_word = λ reg. 0;
   opened = λ up. serial_front_reset 0;
 }

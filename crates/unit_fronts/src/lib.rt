@@ -10,8 +10,10 @@ pub mod pwm_front;
 mod serial_registers;
 pub mod spi_front;
 pub mod uart_front;
+pub mod wdt_front;
 
 pub use gpio_front::GpioFront;
 pub use pwm_front::PwmFront;
 pub use spi_front::SpiFront;
 pub use uart_front::UartFront;
+pub use wdt_front::WdtFront;
