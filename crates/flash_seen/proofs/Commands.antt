@@ -7,7 +7,7 @@ use Rattle.spi_flash.specs.declared.transfer.Entry.{Entry}
 use Rattle.spi_flash.specs.declared.transfer.Entry.TheVariants.{Byte, Select}
 use Rattle.spi_flash.specs.declared.transfer.Transfer.{Transfer}
 use Rattle.spi_flash.specs.declared.transfer.Transfer.TheVariants.{Idle, Opened, Command, Read, Program}
-use Rattle.spi_flash.specs.Flash.{FlashState, answer_in, answer_of, blank, byte_of, cells_of, flash_size, followed, programmed}
+use Rattle.spi_flash.specs.Flash.{FlashState, blank, byte_of, cells_of, flash_answer, flash_size, followed, programmed, transfer_answer}
 use Rattle.spi_flash.specs.Laws.{after_bytes}
 use Rattle.spi_flash.proofs.Cells.{cells_same}
 use Rattle.spi_flash.proofs.Laws.{holds_of_answers}
@@ -253,18 +253,18 @@ sent_bytes cells writable transfer [] = refl
 sent_bytes cells writable transfer (byte ∷ more) = sent_bytes cells writable (followed false transfer byte) more
 
 -- the answers are those of the flash to which the bytes are sent
-as_sent : (cells : List ℕ) (writable : Bool) (bytes : List ℕ) → answer_after (see cells writable Idle) bytes ≡ answer_of (after_bytes (at_rest (see cells writable Opened)) bytes)
-as_sent cells writable bytes = ap answer_seen (drain_bytes cells writable Opened bytes) ∙ ap answer_of (sym (sent_bytes cells writable Opened bytes))
+as_sent : (cells : List ℕ) (writable : Bool) (bytes : List ℕ) → answer_after (see cells writable Idle) bytes ≡ flash_answer (after_bytes (at_rest (see cells writable Opened)) bytes)
+as_sent cells writable bytes = ap answer_seen (drain_bytes cells writable Opened bytes) ∙ ap flash_answer (sym (sent_bytes cells writable Opened bytes))
 
 status_either : (P : Transfer → Type 0) (b : Bool) (x y : Transfer) → P x → P y → P (if b then x else y)
 status_either P true x y p q = p
 status_either P false x y p q = q
 
-status_from : (status : ℕ) (cells : List ℕ) (count address : ℕ) (more : List ℕ) → answer_in status cells (transfer_after (Command 0x05 count address) more) ≡ status
+status_from : (status : ℕ) (cells : List ℕ) (count address : ℕ) (more : List ℕ) → transfer_answer status cells (transfer_after (Command 0x05 count address) more) ≡ status
 status_from status cells count address [] = refl
 status_from status cells count address (byte ∷ more) =
-    status_either (λ t. answer_in status cells (transfer_after t more) ≡ status) (nat_lt count 2) _ _ (status_from status cells (count + 1) (address * 256 + byte) more)
-    (status_either (λ t. answer_in status cells (transfer_after t more) ≡ status) (count == 2) _ _ (status_from status cells 3 (address * 256 + byte) more)
+    status_either (λ t. transfer_answer status cells (transfer_after t more) ≡ status) (nat_lt count 2) _ _ (status_from status cells (count + 1) (address * 256 + byte) more)
+    (status_either (λ t. transfer_answer status cells (transfer_after t more) ≡ status) (count == 2) _ _ (status_from status cells 3 (address * 256 + byte) more)
     (status_from status cells count address more))
 
 reads_answered : (fitted : Bool) (cells : List ℕ) (writable : Bool) (transfer : Transfer) → fitted ≡ true → transfer ≡ Idle → (a b c : ℕ) (more : List ℕ)

@@ -8,7 +8,7 @@ use Rattle.spi_flash.specs.declared.transfer.Transfer.{Transfer}
 use Rattle.spi_flash.specs.declared.transfer.Transfer.TheVariants.{Idle, Ignored, Opened, Command, Read, Program}
 use Rattle.spi_flash.specs.declared.transfer.Operation.{Operation}
 use Rattle.spi_flash.specs.declared.transfer.UnderWay.{UnderWay}
-use Rattle.spi_flash.specs.Flash.{FlashState, answer_in, answer_of, byte_sent, command_in, commanded, deselected, enable_after, flash_cycle, flash_start, followed, opened, operation_of, selected, settled_by, started, worked}
+use Rattle.spi_flash.specs.Flash.{FlashState, byte_sent, command_in, commanded, deselected, enable_after, erase_of, flash_answer, flash_cycle, flash_size, flash_start, followed, opened, operation_of, selected, settled_by, started, transfer_answer, worked}
 use Rattle.flash_seen.specs.Laws.{AnswersAsSeen, IsCalm, IsFollowed, SeesAll, StaysCalm, asks_status, is_passive, DrainsAsSeen, after_entries, after_entry}
 use Rattle.flash_seen.specs.Seen.{answer_seen, seen, starts, starts_by, step, NoStarts, drain}
 
@@ -31,8 +31,12 @@ seen_cycle : (f : FlashState) → seen (flash_cycle f) ≡ seen f
 seen_cycle f = cycled_of f.fitted f.cells f.enable f.transfer f.work
 
 calm_some : (f : FlashState) (work : UnderWay) (last : Bool) → (work.left == 1) ≡ last → f.work ≡ Some work → IsCalm f → IsCalm (worked f (Some work))
-calm_some f work true e is c = rw e record { passive = λ (h : false ≡ true). absurd (cc h); unfit = λ h. refl }
-calm_some f work false e is c = rw e record { passive = λ h. c.passive (ap (λ w. is_some w) is); unfit = λ h. let bad : Some work ≡ None = sym is ∙ c.unfit h in absurd (cc bad) }
+calm_some f work true e is c = rw e record { passive = λ (h : false ≡ true). absurd (cc h); enabled = λ (h : false ≡ true). absurd (cc h); unfit = λ h. refl }
+calm_some f work false e is c = rw e record {
+  passive = λ h. c.passive (ap (λ w. is_some w) is);
+  enabled = λ h. c.enabled (ap (λ w. is_some w) is);
+  unfit = λ h. let bad : Some work ≡ None = sym is ∙ c.unfit h in absurd (cc bad);
+}
 
 calm_of : (f : FlashState) (work : Option UnderWay) → f.work ≡ work → IsCalm f → IsCalm (worked f work)
 calm_of f None is c = c
@@ -93,11 +97,56 @@ passive_opened (Read at) h = h
 passive_opened (Program address page at filled) h = h
 passive_opened (Command code count address) h = h
 
+-- what a deselect starts is started where write enable is set, and leaves it so
+started_needs : (operation : Option Operation) (enable : Bool) → is_some (started operation enable None) ≡ true → (is_some operation ≡ true) × (enable ≡ true)
+started_needs None enable h = absurd (cc h)
+started_needs (Some operation) true h = (refl, refl)
+started_needs (Some operation) false h = absurd (cc h)
+
+erase_none : (code address : ℕ) → (code == 0x04) ≡ true → erase_of code address ≡ None
+erase_none code address e = let is : code ≡ 0x04 = eqb-true code 4 e in rw is refl
+
+is_some_if : (b : Bool) (operation : Option Operation) → is_some (if b then operation else None) ≡ true → is_some operation ≡ true
+is_some_if true operation h = h
+is_some_if false operation h = absurd (cc h)
+
+kept_by : (code address : ℕ) (six four : Bool) → (code == 0x06) ≡ six → (code == 0x04) ≡ four → is_some (erase_of code address) ≡ true
+    → (if six then true else if four then false else true) ≡ true
+kept_by code address true four s f h = refl
+kept_by code address false false s f h = refl
+kept_by code address false true s f h = let bad : false ≡ true = sym (ap (λ o. is_some o) (erase_none code address f)) ∙ h in absurd (cc bad)
+
+enable_kept : (transfer : Transfer) → is_some (operation_of transfer) ≡ true → enable_after transfer true ≡ true
+enable_kept Idle h = refl
+enable_kept Ignored h = refl
+enable_kept Opened h = refl
+enable_kept (Read at) h = refl
+enable_kept (Program address page at filled) h = refl
+enable_kept (Command code count address) h = kept_by code (address % flash_size) _ _ refl refl (is_some_if (count == 3) _ h)
+
+enabled_started : (transfer : Transfer) (enable : Bool) → is_some (started (operation_of transfer) enable None) ≡ true → enable_after transfer enable ≡ true
+enabled_started transfer enable h =
+    let needs : (is_some (operation_of transfer) ≡ true) × (enable ≡ true) = started_needs (operation_of transfer) enable h in
+    ap (enable_after transfer) needs.1 ∙ enable_kept transfer needs.0
+
 calm_selected_of : (fitted : Bool) (cells : List ℕ) (enable : Bool) (transfer : Transfer) (work : Option UnderWay) (on : Bool)
     → IsCalm (flash fitted cells enable transfer work) → IsCalm (selected (flash fitted cells enable transfer work) on)
 calm_selected_of false cells enable transfer work on c = c
-calm_selected_of true cells enable transfer work true c = record { passive = λ h. passive_opened transfer (c.passive h); unfit = λ (h : true ≡ false). absurd (cc h) }
-calm_selected_of true cells enable transfer work false c = record { passive = λ h. refl; unfit = λ (h : true ≡ false). absurd (cc h) }
+calm_selected_of true cells enable transfer work true c = record {
+  passive = λ h. passive_opened transfer (c.passive h);
+  enabled = c.enabled;
+  unfit = λ (h : true ≡ false). absurd (cc h);
+}
+calm_selected_of true cells enable transfer None false c = record {
+  passive = λ h. refl;
+  enabled = enabled_started transfer enable;
+  unfit = λ (h : true ≡ false). absurd (cc h);
+}
+calm_selected_of true cells enable transfer (Some work) false c = record {
+  passive = λ h. refl;
+  enabled = λ h. (passive transfer (c.passive refl)).kept enable ∙ c.enabled refl;
+  unfit = λ (h : true ≡ false). absurd (cc h);
+}
 
 calm_selected : (f : FlashState) (on : Bool) → IsCalm f → IsCalm (selected f on)
 calm_selected f on c = calm_selected_of f.fitted f.cells f.enable f.transfer f.work on c
@@ -164,20 +213,20 @@ calm_byte_some transfer (Some work) byte h e = passive_followed transfer byte (b
 calm_byte_of : (fitted : Bool) (cells : List ℕ) (enable : Bool) (transfer : Transfer) (work : Option UnderWay) (byte : ℕ)
     → IsCalm (flash fitted cells enable transfer work) → IsCalm (byte_sent (flash fitted cells enable transfer work) byte)
 calm_byte_of false cells enable transfer work byte c = c
-calm_byte_of true cells enable transfer work byte c = record { passive = calm_byte_some transfer work byte c.passive; unfit = c.unfit }
+calm_byte_of true cells enable transfer work byte c = record { passive = calm_byte_some transfer work byte c.passive; enabled = c.enabled; unfit = c.unfit }
 
 calm_byte : (f : FlashState) (byte : ℕ) → IsCalm f → IsCalm (byte_sent f byte)
 calm_byte f byte c = calm_byte_of f.fitted f.cells f.enable f.transfer f.work byte c
 
 pub calm_at_start : (fitted : Bool) → IsCalm (flash_start fitted)
-calm_at_start fitted = record { passive = λ h. refl; unfit = λ h. refl }
+calm_at_start fitted = record { passive = λ h. refl; enabled = λ (h : false ≡ true). absurd (cc h); unfit = λ h. refl }
 
 pub stays_calm : (f : FlashState) → StaysCalm f
 stays_calm f = record {
   cycle = calm_cycle f;
   selection = calm_selected f;
   byte = calm_byte f;
-  reset = λ c. record { passive = λ h. refl; unfit = c.unfit };
+  reset = λ c. record { passive = λ h. refl; enabled = c.enabled; unfit = c.unfit };
 }
 
 pub sees_all : (f : FlashState) → SeesAll f
@@ -194,7 +243,11 @@ is_none None h = refl
 is_none (Some work) h = absurd (cc h)
 
 pub calm_free : (f : FlashState) → f.work ≡ None → IsCalm f
-calm_free f e = record { passive = λ h. let bad : true ≡ false = sym h ∙ ap (λ w. is_some w) e in absurd (cc bad); unfit = λ h. e }
+calm_free f e = record {
+  passive = λ h. let bad : true ≡ false = sym h ∙ ap (λ w. is_some w) e in absurd (cc bad);
+  enabled = λ h. let bad : true ≡ false = sym h ∙ ap (λ w. is_some w) e in absurd (cc bad);
+  unfit = λ h. e;
+}
 
 record EntersFree (f : FlashState) (entry : Entry) : Type 0 where
   free : (after_entry f entry).work ≡ None
@@ -218,7 +271,7 @@ drains_as_seen f e entries n = drains_from entries f e n
 -- answers
 
 settled_answer : (s t : ℕ) (cells : List ℕ) (transfer : Transfer) (work : Option UnderWay) → (is_some work ≡ true → is_passive transfer ≡ true) → asks_status transfer ≡ false
-    → answer_in s cells transfer ≡ answer_in t (settled_by cells work) transfer
+    → transfer_answer s cells transfer ≡ transfer_answer t (settled_by cells work) transfer
 settled_answer s t cells Idle work c h = refl
 settled_answer s t cells Ignored work c h = refl
 settled_answer s t cells Opened work c h = refl
@@ -228,11 +281,11 @@ settled_answer s t cells (Read at) None c h = refl
 settled_answer s t cells (Read at) (Some work) c h = let bad : false ≡ true = c refl in absurd (cc bad)
 
 other_of : (fitted : Bool) (cells : List ℕ) (enable : Bool) (transfer : Transfer) (work : Option UnderWay) → IsCalm (flash fitted cells enable transfer work) → asks_status transfer ≡ false
-    → answer_of (flash fitted cells enable transfer work) ≡ answer_seen (seen (flash fitted cells enable transfer work))
+    → flash_answer (flash fitted cells enable transfer work) ≡ answer_seen (seen (flash fitted cells enable transfer work))
 other_of false cells enable transfer work c h = refl
 other_of true cells enable transfer work c h = settled_answer _ _ cells transfer work c.passive h
 
-status_answer : (s : ℕ) (cells : List ℕ) (transfer : Transfer) → asks_status transfer ≡ true → answer_in s cells transfer ≡ s
+status_answer : (s : ℕ) (cells : List ℕ) (transfer : Transfer) → asks_status transfer ≡ true → transfer_answer s cells transfer ≡ s
 status_answer s cells Idle h = absurd (cc h)
 status_answer s cells Ignored h = absurd (cc h)
 status_answer s cells Opened h = absurd (cc h)
@@ -249,20 +302,34 @@ status_even (Some work) true h = absurd (omega (arith, h))
 status_even (Some work) false h = absurd (omega (arith, h))
 
 status_same : (cells : List ℕ) (enable : Bool) (transfer : Transfer) (work : Option UnderWay) → work ≡ None
-    → answer_of (flash true cells enable transfer work) ≡ answer_seen (seen (flash true cells enable transfer work))
+    → flash_answer (flash true cells enable transfer work) ≡ answer_seen (seen (flash true cells enable transfer work))
 status_same cells enable transfer work e = rw e refl
 
 status_of_flash : (fitted : Bool) (cells : List ℕ) (enable : Bool) (transfer : Transfer) (work : Option UnderWay) → fitted ≡ true → asks_status transfer ≡ true
-    → answer_of (flash fitted cells enable transfer work) % 2 ≡ 0
-    → (work ≡ None) × (answer_of (flash fitted cells enable transfer work) ≡ answer_seen (seen (flash fitted cells enable transfer work)))
+    → flash_answer (flash fitted cells enable transfer work) % 2 ≡ 0
+    → (work ≡ None) × (flash_answer (flash fitted cells enable transfer work) ≡ answer_seen (seen (flash fitted cells enable transfer work)))
 status_of_flash false cells enable transfer work is h e = absurd (cc is)
 status_of_flash true cells enable transfer work is h e =
     let even : status_word (is_some work) enable % 2 ≡ 0 = ap (λ n. n % 2) (sym (status_answer (status_word (is_some work) enable) cells transfer h)) ∙ e in
     let none : work ≡ None = status_even work enable even in
     (none, status_same cells enable transfer work none)
 
+status_odd : (work : Option UnderWay) (enable : Bool) → (is_some work ≡ true → enable ≡ true) → status_word (is_some work) enable % 2 ≡ 1 → status_word (is_some work) enable ≡ 3
+status_odd None true c h = absurd (omega (arith, h))
+status_odd None false c h = absurd (omega (arith, h))
+status_odd (Some work) true c h = refl
+status_odd (Some work) false c h = let bad : false ≡ true = c refl in absurd (cc bad)
+
+busy_of_flash : (fitted : Bool) (cells : List ℕ) (enable : Bool) (transfer : Transfer) (work : Option UnderWay) → IsCalm (flash fitted cells enable transfer work) → fitted ≡ true
+    → asks_status transfer ≡ true → flash_answer (flash fitted cells enable transfer work) % 2 ≡ 1 → flash_answer (flash fitted cells enable transfer work) ≡ 3
+busy_of_flash false cells enable transfer work c is h e = absurd (cc is)
+busy_of_flash true cells enable transfer work c is h e =
+    let same : flash_answer (flash true cells enable transfer work) ≡ status_word (is_some work) enable = status_answer (status_word (is_some work) enable) cells transfer h in
+    same ∙ status_odd work enable c.enabled (ap (λ n. n % 2) (sym same) ∙ e)
+
 pub answers_as_seen : (f : FlashState) → AnswersAsSeen f
 answers_as_seen f = record {
   other = other_of f.fitted f.cells f.enable f.transfer f.work;
   status = status_of_flash f.fitted f.cells f.enable f.transfer f.work;
+  busy = busy_of_flash f.fitted f.cells f.enable f.transfer f.work;
 }

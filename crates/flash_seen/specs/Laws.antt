@@ -4,7 +4,7 @@ use Rattle.spi_flash.specs.declared.transfer.Entry.{Entry}
 use Rattle.spi_flash.specs.declared.transfer.Entry.TheVariants.{Byte, Select}
 use Rattle.spi_flash.specs.declared.transfer.Transfer.{Transfer}
 use Rattle.spi_flash.specs.declared.transfer.Transfer.TheVariants.{Idle, Opened, Command, Read, Program}
-use Rattle.spi_flash.specs.Flash.{FlashState, answer_of, broken_off, byte_of, byte_sent, flash_cycle, flash_size, selected}
+use Rattle.spi_flash.specs.Flash.{FlashState, broken_off, byte_of, byte_sent, flash_answer, flash_cycle, flash_size, selected}
 use Rattle.flash_seen.specs.Seen.{NoStarts, Seen, answer_seen, drain, seen, starts, step}
 use Rattle.flash_seen.specs.Commands.{after_command, bytes_sent, whole_command}
 
@@ -22,6 +22,8 @@ asks_status _ = false
 -- while an operation is under way no command but the one to read the status is followed
 pub record IsCalm (f : FlashState) : Type 0 where
   pub passive : is_some f.work ≡ true → is_passive f.transfer ≡ true
+  -- write enable is set until it ends
+  pub enabled : is_some f.work ≡ true → f.enable ≡ true
   pub unfit : f.fitted ≡ false → f.work ≡ None
 
 -- a command other than the one to read the status comes only where no operation is under way
@@ -58,10 +60,12 @@ abbrev pub DrainsAsSeen : FlashState → Type 0
 DrainsAsSeen f = f.work ≡ None → (entries : List Entry) → NoStarts (seen f) entries
     → ((after_entries f entries).work ≡ None) × (seen (after_entries f entries) ≡ drain (seen f) entries)
 
--- answers other than the status are as if no operation were under way, and so is a status with bit 0 clear: then there is none
+-- answers other than the status are as if no operation were under way, and so is a status with bit 0 clear: then there is none. A status with
+-- bit 0 set has bit 1 set too
 pub record AnswersAsSeen (f : FlashState) : Type 0 where
-  pub other : IsCalm f → asks_status f.transfer ≡ false → answer_of f ≡ answer_seen (seen f)
-  pub status : f.fitted ≡ true → asks_status f.transfer ≡ true → answer_of f % 2 ≡ 0 → (f.work ≡ None) × (answer_of f ≡ answer_seen (seen f))
+  pub other : IsCalm f → asks_status f.transfer ≡ false → flash_answer f ≡ answer_seen (seen f)
+  pub status : f.fitted ≡ true → asks_status f.transfer ≡ true → flash_answer f % 2 ≡ 0 → (f.work ≡ None) × (flash_answer f ≡ answer_seen (seen f))
+  pub busy : IsCalm f → f.fitted ≡ true → asks_status f.transfer ≡ true → flash_answer f % 2 ≡ 1 → flash_answer f ≡ 3
 
 -- a whole command does what its bytes say
 abbrev pub DoesCommands : Seen → Type 0

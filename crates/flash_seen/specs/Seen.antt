@@ -5,7 +5,7 @@ use Rattle.spi_flash.specs.declared.transfer.Entry.TheVariants.{Byte, Select}
 use Rattle.spi_flash.specs.declared.transfer.Transfer.{Transfer}
 use Rattle.spi_flash.specs.declared.transfer.Transfer.TheVariants.{Idle}
 use Rattle.spi_flash.specs.declared.transfer.Operation.{Operation}
-use Rattle.spi_flash.specs.Flash.{FlashState, answer_of, byte_of, cells_of, done_by, enable_after, followed, opened, operation_of, settled}
+use Rattle.spi_flash.specs.Flash.{FlashState, byte_of, cells_of, done_by, enable_after, flash_answer, followed, opened, operation_of, settled}
 
 pub record Seen : Type 0 where
   pub fitted : Bool
@@ -74,4 +74,4 @@ at_rest s = record { fitted = s.fitted; cells = s.cells; enable = s.writable; tr
 
 -- the answer to the next byte where no operation is under way
 abbrev pub answer_seen : Seen → ℕ
-answer_seen s = answer_of (at_rest s)
+answer_seen s = flash_answer (at_rest s)

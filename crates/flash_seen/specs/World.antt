@@ -6,7 +6,7 @@ use Rattle.chip_base.specs.declared.chip_unit.HubPart.TheVariants as part
 use Rattle.spi_flash.specs.declared.transfer.Entry.TheVariants.{Byte, Select}
 use Rattle.spi_flash.specs.declared.transfer.Transfer.{Transfer}
 use Rattle.spi_flash.specs.declared.transfer.Transfer.TheVariants.{Opened}
-use Rattle.spi_flash.specs.Flash.{answer_in}
+use Rattle.spi_flash.specs.Flash.{transfer_answer}
 use Rattle.flash_seen.specs.Laws.{asks_status}
 use Rattle.flash_seen.specs.Seen.{Seen, starts, step}
 
@@ -27,9 +27,11 @@ pub record World : Type 0 where
   -- for sure no operation is under way
   pub free : Bool
   pub stage : Stage
+  -- an entry was sent
+  pub used : Bool
 
-abbrev pub start : Seen → World
-start flash = record { flash = flash; free = not flash.fitted; stage = Shut }
+abbrev pub world_start : Seen → World
+world_start flash = record { flash = flash; free = not flash.fitted; stage = Shut; used = false }
 
 -- the registers that bear on the flash: SPI's three, and OPEN
 pub data Place : Type 0 where
@@ -77,12 +79,13 @@ stage_after stage = stage
 
 -- after a load, or a store of this word, and its answer
 abbrev pub effect : World → Place → Option ℕ → ℕ → World
-effect w Datum (Some word) reply = record { flash = step w.flash (Byte (word % 256)); free = w.free; stage = Sent w.flash.transfer }
-effect w Datum None reply = record { flash = w.flash; free = free_after w.stage reply w.free; stage = stage_after w.stage }
+effect w Datum (Some word) reply = record { flash = step w.flash (Byte (word % 256)); free = w.free; stage = Sent w.flash.transfer; used = true }
+effect w Datum None reply = record { flash = w.flash; free = free_after w.stage reply w.free; stage = stage_after w.stage; used = w.used }
 effect w Selection (Some word) reply = record {
   flash = step w.flash (Select (word % 2 == 1));
   free = not (starts w.flash (Select (word % 2 == 1))) && w.free;
   stage = chosen_more w.stage;
+  used = true;
 }
 effect w Control None reply = record w { stage = looked w.stage (has_bit reply 16) }
 effect w Openness None reply = record w { stage = unshut w.stage (has_bit reply (unit_row unit.Spi).number) }
@@ -112,9 +115,11 @@ IsAllowed w place store = Unit {0}
 
 pub record IsAnswer (flash : Seen) (free : Bool) (before : Transfer) (reply : ℕ) : Type 0 where
   pub absent : flash.fitted ≡ false → reply ≡ 0
-  pub other : flash.fitted ≡ true → asks_status before ≡ false → reply ≡ answer_in 0 flash.cells before
+  pub other : flash.fitted ≡ true → asks_status before ≡ false → reply ≡ transfer_answer 0 flash.cells before
   pub idle : asks_status before ≡ true → free ≡ true → reply % 2 ≡ 0
-  pub status : flash.fitted ≡ true → asks_status before ≡ true → reply % 2 ≡ 0 → reply / 2 % 2 ≡ (if flash.writable then 1 else 0)
+  -- a status with bit 0 clear tells of write enable in bit 1, and one with bit 0 set has both bits
+  pub done : flash.fitted ≡ true → asks_status before ≡ true → reply % 2 ≡ 0 → reply ≡ (if flash.writable then 2 else 0)
+  pub busy : flash.fitted ≡ true → asks_status before ≡ true → reply % 2 ≡ 1 → reply ≡ 3
 
 abbrev pub IsToldAt : World → Stage → ℕ → Type 0
 IsToldAt w (Ready before) reply = IsAnswer w.flash w.free before reply
