@@ -1,6 +1,9 @@
 pub mod Rest
 pub mod Tallies
 pub mod Printing
+pub mod Opens
+pub mod Leads
+pub mod Blocks
 pub mod Taking
 pub mod Judging
 pub mod Replies

@@ -4,7 +4,7 @@ use Rattle.std.specs.Prelude.{Some, None, slice_get, ◌==◌, bit_and}
 use Rattle.boot_monitor.proofs.Rest.{IsOpen, settled-open, open-print, if-true, if-false}
 use Rattle.boot_monitor.specs.declared.phases.Setting.TheVariants.{Imem, Dmem, Clock}
 use Rattle.boot_monitor.specs.declared.phases.Text.{Text}
-use Rattle.boot_monitor.specs.declared.phases.Text.TheVariants.{Greeting, Help, Name, Digits, InformationEnd, Up, Done, NoneHeld, UnknownCommand, BadSignature, BadSize, BadChecksum, Go}
+use Rattle.boot_monitor.specs.declared.phases.Text.TheVariants.{Greeting, Help, Name, Digits, InformationEnd, Up, Done, NoneHeld, UnknownCommand, BadSignature, BadSize, BadChecksum, BadFlash, Go}
 use Rattle.boot_monitor.specs.declared.phases.Phase.{Phase}
 use Rattle.boot_monitor.specs.declared.phases.Phase.TheVariants.{AwaitingRoom, Sending}
 use Rattle.boot_monitor.specs.Actions.{Action, Save, Mind, answered, asks, is_full, load, print, store, uart_ctrl, uart_data}
@@ -15,7 +15,7 @@ drop-next [] place h = let bad : ⊥ = omega arith in elim bad [ ]
 drop-next (b ∷ text) zero h = refl
 drop-next (b ∷ text) (suc place) h = drop-next text place (omega arith)
 
-get_or-is : (text : List ℕ) (place b : ℕ) → slice_get text place ≡ Some b → get_or text place 0 ≡ b
+pub get_or-is : (text : List ℕ) (place b : ℕ) → slice_get text place ≡ Some b → get_or text place 0 ≡ b
 get_or-is [] place b h = let bad : ⊥ = cc in elim bad [ ]
 get_or-is (x ∷ text) zero b h = cc
 get_or-is (x ∷ text) (suc place) b h = get_or-is text place b h
@@ -40,7 +40,7 @@ pub asks-byte : (phase : Phase) (text : Text) (place ctrl count size : ℕ) (byt
 asks-byte phase text place ctrl count size bytes b e h =
     subst (λ p. store uart_data b ≡ asks (todo_in p ctrl count size) bytes) (sym e) (ap (store uart_data) (sym (get_or-is (text_of text) place b h)))
 
-open-text : (text : Text) → IsOpen (after_text text)
+pub open-text : (text : Text) → IsOpen (after_text text)
 open-text Greeting = tt
 open-text Help = tt
 open-text (Name setting) = tt
@@ -55,6 +55,7 @@ open-text UnknownCommand = tt
 open-text BadSignature = tt
 open-text BadSize = tt
 open-text BadChecksum = tt
+open-text BadFlash = tt
 open-text Go = tt
 
 module _ (room ctrl count size : ℕ) (i : Mind) (word : ℕ) where
@@ -86,3 +87,7 @@ module _ (room ctrl count size : ℕ) (i : Mind) (word : ℕ) where
       ∙ settled-open room ctrl (print (drop (suc place) (text_of text)) (after_text text)) i
       (open-print (drop (suc place) (text_of text)) (after_text text) (open-text text))
       ∙ ap (λ x. record { todo = x; mind = i }) (sym (h ∙ ap (λ n. print (drop n (text_of text)) (after_text text)) (add-one place)))
+
+-- a text from a byte's place on begins with no decision
+pub open-from : (text : Text) (place : ℕ) → place < length (text_of text) → IsOpen (print (drop place (text_of text)) (after_text text))
+open-from text place h = subst (λ x. IsOpen (print x (after_text text))) (sym (drop-next (text_of text) place h)) tt

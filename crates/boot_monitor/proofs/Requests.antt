@@ -12,21 +12,23 @@ use Rattle.soc_bus.specs.declared.access.Region.{Region}
 use Rattle.soc_bus.specs.declared.access.Region.TheVariants as region
 use Rattle.soc_bus.specs.declared.access.Request.{Request}
 use Rattle.soc_bus.specs.declared.access.Width.TheVariants as width
-use Rattle.boot_monitor.specs.Actions.{State, after, asks, info_clock, info_dmem, info_imem, info_open, load, next, store, uart_ctrl, uart_data, last_word}
+use Rattle.boot_monitor.specs.Actions.{ActionState, after_replies, asks, info_clock, info_dmem, info_imem, info_open, load, next, store, spi_ctrl, spi_data, spi_select, uart_ctrl, uart_data, last_word}
 use Rattle.boot_monitor.specs.Phases.{IsCounted, IsIn, IsReady, IsSound, IsStarted, todo_in}
 use Rattle.boot_monitor.specs.Standing.{IsLoaded, IsMine, IsPlace, IsStored, Stands}
 use Rattle.boot_monitor.specs.declared.exchange.MonitorOut.{MonitorOut}
 use Rattle.boot_monitor.specs.declared.exchange.MonitorOut.TheVariants.{Bus}
 use Rattle.boot_monitor.specs.declared.phases.MonitorState.{MonitorState}
 use Rattle.boot_monitor.specs.declared.phases.Phase.{Phase}
-use Rattle.boot_monitor.specs.declared.phases.Phase.TheVariants.{Unstarted, Opening, SettingUp, AwaitingRoom, Sending, Asking, AwaitingByte, Taking, Storing, Finishing, Over}
+use Rattle.boot_monitor.specs.declared.phases.Phase.TheVariants.{Unstarted, Opening, SettingUp, AwaitingRoom, Sending, Asking, AwaitingByte, Taking, Storing, Enabling, Selecting, Transferring, AwaitingAnswer, Answering, Fetching, Deselecting, Finishing, Over}
 use Rattle.boot_monitor.specs.declared.phases.Purpose.TheVariants.{Command, Header, Payload}
 use Rattle.boot_monitor.specs.declared.phases.Setting.TheVariants.{Imem, Dmem, Clock}
+use Rattle.boot_monitor.specs.Errands.{word_address}
+use Rattle.boot_monitor.proofs.Blocks.{word-within}
 use Rattle.boot_monitor.proofs.Printing.{asks-room}
 use Rattle.boot_monitor.proofs.Rest.{if-true, if-false}
 
 -- a load and a store that it may make
-loads : (room address : ℕ) (request : Request) → IsLoaded address → load address ≡ Bus request → IsMine room request
+loads : (room address : ℕ) (request : Request) → IsLoaded room address → load address ≡ Bus request → IsMine room request
 loads room address request h e =
     let is : record { addr = address; width = width.Word; store = None } ≡ request = cc in
     subst (IsMine room) is (record { width = refl; place = h })
@@ -40,7 +42,7 @@ stores-to room address value request h e =
 mine-in : (p : Phase) (room ctrl count size : ℕ) (bytes : List ℕ) (request : Request) → IsReady p → IsStarted p → IsCounted p room count size
     → asks (todo_in p ctrl count size) bytes ≡ Bus request → IsMine room request
 mine-in Unstarted room ctrl count size bytes request r s c e = elim s [ ]
-mine-in Opening room ctrl count size bytes request r s c e = loads room info_open request (inr (inr (inr (inr (inr refl))))) e
+mine-in Opening room ctrl count size bytes request r s c e = loads room info_open request (inr (inr (inr (inr (inr (inl refl)))))) e
 mine-in SettingUp room ctrl count size bytes request r s c e = stores-to room uart_ctrl ctrl request (inl refl) e
 mine-in (AwaitingRoom text place) room ctrl count size bytes request r s c e =
     loads room uart_ctrl request (inl refl) (asks-room (AwaitingRoom text place) text place ctrl count size bytes refl r ∙ e)
@@ -52,16 +54,25 @@ mine-in (AwaitingByte purpose) room ctrl count size bytes request r s c e = load
 mine-in (Taking Command) room ctrl count size bytes request r s c e = loads room uart_data request (inr (inl refl)) e
 mine-in (Taking Header) room ctrl count size bytes request r s c e = loads room uart_data request (inr (inl refl)) e
 mine-in (Taking Payload) room ctrl count size bytes request r s c e = loads room uart_data request (inr (inl refl)) e
-mine-in Storing room ctrl count size bytes request r s c e =
-    stores-to room (count - 16) (last_word bytes) request (inr (inr (omega (arith, c.from, c.to, c.fits), omega (arith, c.from, c.word)))) e
+mine-in (Storing source) room ctrl count size bytes request r s c e =
+    stores-to room (count - 16) (last_word bytes) request (inr (inr (inr (inr (inr (omega (arith, c.from, c.to, c.fits), omega (arith, c.from, c.word))))))) e
+mine-in (Enabling errand) room ctrl count size bytes request r s c e = stores-to room spi_ctrl 1 request (inr (inr (inl refl))) e
+mine-in (Selecting frame errand) room ctrl count size bytes request r s c e = stores-to room spi_select 1 request (inr (inr (inr (inr (inl refl))))) e
+mine-in (Transferring transfer) room ctrl count size bytes request r s c e = stores-to room spi_data _ request (inr (inr (inr (inl refl)))) e
+mine-in (AwaitingAnswer transfer) room ctrl count size bytes request r s c e = loads room spi_ctrl request (inr (inr (inr (inr (inr (inr (inl refl))))))) e
+mine-in (Answering transfer) room ctrl count size bytes request r s c e = loads room spi_data request (inr (inr (inr (inr (inr (inr (inr (inl refl)))))))) e
+mine-in (Fetching page index) room ctrl count size bytes request r s c e =
+    let within : word_address page index < page.image.length = word-within page index c.page_is.number c.below in
+    loads room (word_address page index) request (inr (inr (inr (inr (inr (inr (inr (inr (omega (arith, within, c.page_is.fits), omega arith))))))))) e
+mine-in (Deselecting frame errand) room ctrl count size bytes request r s c e = stores-to room spi_select 0 request (inr (inr (inr (inr (inl refl))))) e
 mine-in Finishing room ctrl count size bytes request r s c e = loads room uart_ctrl request (inl refl) e
 mine-in Over room ctrl count size bytes request r s c e = let bad : ⊥ = cc in elim bad [ ]
 
 -- what the monitor asks where it stands
 pub asks-next : (m : MonitorState) (out : MonitorOut) (room ctrl : ℕ) (replies : List ℕ) → Stands m room ctrl (Some replies)
-    → ((s : State) → IsIn m s → out ≡ asks s.todo s.mind.bytes) → out ≡ next room ctrl replies
+    → ((s : ActionState) → IsIn m s → out ≡ asks s.todo s.mind.bytes) → out ≡ next room ctrl replies
 unfolding Stands
-asks-next m out room ctrl replies h is = is (after room ctrl replies) h.3
+asks-next m out room ctrl replies h is = is (after_replies room ctrl replies) h.3
 
 -- it is a request that it may make
 pub mine : (m : MonitorState) (out : MonitorOut) (room ctrl : ℕ) (replies : List ℕ) (request : Request) → Stands m room ctrl (Some replies) → IsSound m
@@ -69,8 +80,8 @@ pub mine : (m : MonitorState) (out : MonitorOut) (room ctrl : ℕ) (replies : Li
 unfolding Stands
 mine m out room ctrl replies request h sound is e =
     subst (λ r. IsMine r request) h.0
-    (mine-in m.phase m.room m.ctrl m.tally.count m.tally.size (after room ctrl replies).mind.bytes request sound.ready h.2 sound.counted
-    (ap (λ todo. asks todo (after room ctrl replies).mind.bytes) (sym h.3.todo) ∙ sym is ∙ e))
+    (mine-in m.phase m.room m.ctrl m.tally.count m.tally.size (after_replies room ctrl replies).mind.bytes request sound.ready h.2 sound.counted
+    (ap (λ todo. asks todo (after_replies room ctrl replies).mind.bytes) (sym h.3.todo) ∙ sym is ∙ e))
 
 -- the room is a memory's size
 pub room-is : (m : MonitorState) (room ctrl : ℕ) (replies : List ℕ) → Stands m room ctrl (Some replies) → IsSound m → IsSize room
@@ -156,6 +167,18 @@ open-there : device_of info_open ≡ Some region.Sysinfo
 unfolding registers
 open-there = refl
 
+spi_ctrl-there : device_of spi_ctrl ≡ Some (region.Device 3 0)
+unfolding registers
+spi_ctrl-there = refl
+
+spi_data-there : device_of spi_data ≡ Some (region.Device 3 4)
+unfolding registers
+spi_data-there = refl
+
+spi_select-there : device_of spi_select ≡ Some (region.Device 3 8)
+unfolding registers
+spi_select-there = refl
+
 -- the map refuses none of its requests
 pub admits : (room dmem : ℕ) (request : Request) → IsSize room → IsMine room request → IsOk (admitted request room dmem)
 admits room dmem request hs h = go request.store h.place
@@ -166,7 +189,13 @@ admits room dmem request hs h = go request.store h.place
     go None (inr (inr (inl e))) = at-register request h.width room dmem info_clock _ (omega (arith, hs.to)) refl clock-there e
     go None (inr (inr (inr (inl e)))) = at-register request h.width room dmem info_imem _ (omega (arith, hs.to)) refl imem-there e
     go None (inr (inr (inr (inr (inl e))))) = at-register request h.width room dmem info_dmem _ (omega (arith, hs.to)) refl dmem-there e
-    go None (inr (inr (inr (inr (inr e))))) = at-register request h.width room dmem info_open _ (omega (arith, hs.to)) refl open-there e
+    go None (inr (inr (inr (inr (inr (inl e)))))) = at-register request h.width room dmem info_open _ (omega (arith, hs.to)) refl open-there e
+    go None (inr (inr (inr (inr (inr (inr (inl e))))))) = at-register request h.width room dmem spi_ctrl _ (omega (arith, hs.to)) refl spi_ctrl-there e
+    go None (inr (inr (inr (inr (inr (inr (inr (inl e)))))))) = at-register request h.width room dmem spi_data _ (omega (arith, hs.to)) refl spi_data-there e
+    go None (inr (inr (inr (inr (inr (inr (inr (inr p)))))))) = at-imem request h.width room dmem p.0 p.1
     go (Some value) (inl e) = at-register request h.width room dmem uart_ctrl _ (omega (arith, hs.to)) refl ctrl-there e
     go (Some value) (inr (inl e)) = at-register request h.width room dmem uart_data _ (omega (arith, hs.to)) refl data-there e
-    go (Some value) (inr (inr p)) = at-imem request h.width room dmem p.0 p.1
+    go (Some value) (inr (inr (inl e))) = at-register request h.width room dmem spi_ctrl _ (omega (arith, hs.to)) refl spi_ctrl-there e
+    go (Some value) (inr (inr (inr (inl e)))) = at-register request h.width room dmem spi_data _ (omega (arith, hs.to)) refl spi_data-there e
+    go (Some value) (inr (inr (inr (inr (inl e))))) = at-register request h.width room dmem spi_select _ (omega (arith, hs.to)) refl spi_select-there e
+    go (Some value) (inr (inr (inr (inr (inr p))))) = at-imem request h.width room dmem p.0 p.1

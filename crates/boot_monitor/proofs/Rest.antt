@@ -1,11 +1,13 @@
 -- Lists of actions that begin with no decision.
 use Rattle.std.proofs.Common.{◌≡◌, ℕ, Bool, true, false, List, [], ◌∷◌, refl}
 use Rattle.std.specs.Prelude.{if◌then◌else◌}
-use Rattle.boot_monitor.specs.Actions.{Action, Await, Save, Report, Get, Ask, Keep, Leave, Head, Tail, Mind, print, settled}
+use Rattle.boot_monitor.specs.Actions.{Action, Await, Save, Report, Get, Ask, Keep, Answer, Fetch, Leave, Again, Writable, Head, Tail, Mind, print, settled}
 
 -- the first action is no decision
 abbrev pub IsOpen : List Action → Type 0
-IsOpen (Head ∷ rest) = ⊥
+IsOpen (Again ∷ rest) = ⊥
+IsOpen (Writable ∷ rest) = ⊥
+IsOpen (Head from ∷ rest) = ⊥
 IsOpen (Tail ∷ rest) = ⊥
 IsOpen _ = Unit {0}
 
@@ -18,8 +20,12 @@ settled-open room ctrl (Report _ ∷ rest) i h = refl
 settled-open room ctrl (Get ∷ rest) i h = refl
 settled-open room ctrl (Ask ∷ rest) i h = refl
 settled-open room ctrl (Keep _ ∷ rest) i h = refl
+settled-open room ctrl (Answer _ ∷ rest) i h = refl
+settled-open room ctrl (Fetch _ ∷ rest) i h = refl
 settled-open room ctrl (Leave ∷ rest) i h = refl
-settled-open room ctrl (Head ∷ rest) i h = elim h [ ]
+settled-open room ctrl (Again ∷ rest) i h = elim h [ ]
+settled-open room ctrl (Writable ∷ rest) i h = elim h [ ]
+settled-open room ctrl (Head _ ∷ rest) i h = elim h [ ]
 settled-open room ctrl (Tail ∷ rest) i h = elim h [ ]
 
 -- so is one that prints before it

@@ -1,4 +1,6 @@
 pub mod Actions
+pub mod Errands
+pub mod Gathers
 pub mod Phases
 pub mod Standing
 pub mod Tallies

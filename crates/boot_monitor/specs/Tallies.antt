@@ -1,4 +1,4 @@
--- For the contracts of code: what a tally keeps of the bytes of an upload.
+-- For the contracts of code: what a tally keeps of the bytes of an image.
 use Rattle.std.specs.Prelude.{◌≡◌, ℕ, ◌+◌, ◌*◌, ◌%◌, ◌^◌, List, [], ◌∷◌, length, drop, get_or}
 use Rattle.image_tool.specs.Image.{words, wrapping_sum}
 use Rattle.boot_monitor.specs.Actions.{last_word}

@@ -3,7 +3,7 @@
 use soc_bus::Request;
 
 /// What the monitor is given.
-#[derive(Clone, Copy, Debug, PartialEq, Eq)]
+#[derive(Clone, Copy)]
 pub enum MonitorIn {
     /// It is to begin.
     Start,
@@ -12,7 +12,7 @@ pub enum MonitorIn {
 }
 
 /// What the monitor gives.
-#[derive(Clone, Copy, Debug, PartialEq, Eq)]
+#[derive(Clone, Copy, PartialEq, Eq)]
 pub enum MonitorOut {
     /// It asks this of the bus.
     Bus(Request),

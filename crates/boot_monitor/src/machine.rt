@@ -5,12 +5,18 @@ ghost use Rattle.image_tool.specs.Image.{is_allowed};
 ghost use Rattle.soc_bus.specs.Memory.{IsSize};
 ghost use Rattle.soc_bus.specs.declared.access.Request.{Request};
 ghost use Rattle.boot_monitor.specs.Standing.{IsDue, Stands, given_by};
-ghost use Rattle.boot_monitor.specs.Actions.{Head, Upload, Mind, State, Tail, answered, asks, begun, command, head, key_of, last_word, mind, print, settled, tail, takes_words};
-ghost use Rattle.boot_monitor.specs.Phases.{Goes, IsCounted, IsIn, IsLoading, IsPlain, IsReady, IsSound, IsStarted, IsStoring, IsUnderWay, IsUpload, address_of, after_byte, after_text, held_of, text_of, todo_in, todo_of};
+ghost use Rattle.boot_monitor.specs.Actions.{Load, Store, Upload, Mind, ActionState, answered, asks, begun, command, head, key_of, last_word, print, settled, tail};
+ghost use Rattle.boot_monitor.specs.Errands.{IsPlaced};
+ghost use Rattle.boot_monitor.specs.Gathers.{after_header, after_payload, checking, gathers_words, judging};
+ghost use Rattle.boot_monitor.specs.Phases.{Goes, IsComing, IsComplete, IsCounted, IsFitIn, IsHeld, IsIn, IsLoading, IsPlain, IsReady, IsSound, IsStarted, IsStoring, IsTalk, IsUnderWay, address_of, after_text, from_of, held_of, mind_of, text_of, todo_in, todo_of};
 ghost use Rattle.boot_monitor.specs.Tallies.{Counts};
 
+use crate::errands::{awaiting_header, awaiting_payload, beginning_payload};
 use crate::exchange::{MonitorIn, MonitorOut};
-use crate::phases::{Held, MonitorState, Phase, Purpose, Setting, Text};
+use crate::flash_bytes::{byte_sent, word_address};
+use crate::phases::{
+    Errand, Frame, Held, MonitorState, Phase, Purpose, Setting, Source, Text, Transfer,
+};
 use crate::tally::Tally;
 use crate::text_bytes::byte_at;
 use soc_bus::{Request, Width};
@@ -19,6 +25,13 @@ use soc_bus::{Request, Width};
 const UART_CTRL: u32 = 0xfff5_0000;
 
 const UART_DATA: u32 = 0xfff5_0004;
+
+// SPI's CTRL, DATA and SELECT
+const SPI_CTRL: u32 = 0xfff8_0000;
+
+const SPI_DATA: u32 = 0xfff8_0004;
+
+const SPI_SELECT: u32 = 0xfff8_0008;
 
 // the settings: clock, bytes of IMEM, bytes of DMEM, open fronts
 const INFO_CLOCK: u32 = 0xfffe_0000;
@@ -29,7 +42,7 @@ const INFO_DMEM: u32 = 0xfffe_0008;
 
 const INFO_OPEN: u32 = 0xfffe_000c;
 
-// bits of CTRL
+// bits of CTRL, the first one of SPI's too
 const HAS_COME: u32 = 0x1_0000;
 
 const IS_FULL: u32 = 0x20_0000;
@@ -73,12 +86,14 @@ fn address(setting: Setting) -> u32
     }
 }
 
-/// What is asked in a phase, where so many bytes of an upload were taken and this is the last whole word of them.
+/// What is asked in a phase, where so many bytes of an image were taken and this is the last whole word of them.
 fn request_in(phase: Phase, ctrl: u32, count: u32, last: u32) -> MonitorOut
     requires ready { IsReady phase }
     requires started { IsStarted phase }
-    requires storing { phase ≡ Phase.Storing → 16 ≤ count }
-    ensures asked { (size : ℕ) (bytes : List ℕ) → (phase ≡ Phase.Storing → last_word bytes ≡ last) → result ≡ asks (todo_in phase ctrl count size) bytes }
+    requires fit { IsFitIn phase (2 ^ 20) }
+    requires storing { (source : Source) → phase ≡ Phase.Storing source → 16 ≤ count }
+    ensures asked { (size : ℕ) (bytes : List ℕ) → ((source : Source) → phase ≡ Phase.Storing source → last_word bytes ≡ last)
+        → result ≡ asks (todo_in phase ctrl count size) bytes }
     ensures due { (request : Request) → result ≡ MonitorOut.Bus request → IsUnderWay phase }
 {
     match phase {
@@ -93,7 +108,14 @@ fn request_in(phase: Phase, ctrl: u32, count: u32, last: u32) -> MonitorOut
         Phase::Asking(setting) => load(address(setting)),
         Phase::AwaitingByte(_) => load(UART_CTRL),
         Phase::Taking(_) => load(UART_DATA),
-        Phase::Storing => store(count - 16, last),
+        Phase::Storing(_) => store(count - 16, last),
+        Phase::Enabling(_) => store(SPI_CTRL, 1),
+        Phase::Selecting(_, _) => store(SPI_SELECT, 1),
+        Phase::Transferring(transfer) => store(SPI_DATA, u32::from(byte_sent(transfer))),
+        Phase::AwaitingAnswer(_) => load(SPI_CTRL),
+        Phase::Answering(_) => load(SPI_DATA),
+        Phase::Fetching(page, index) => load(word_address(page, index)),
+        Phase::Deselecting(_, _) => store(SPI_SELECT, 0),
         Phase::Finishing => load(UART_CTRL),
         Phase::Over => MonitorOut::HandOver,
     }
@@ -104,7 +126,7 @@ fn printing(text: Text, place: u32) -> Phase
     requires { place ≤ length (text_of text) }
     ensures ready { IsReady result }
     ensures started { IsStarted result }
-    ensures upload { (before : ℕ) → IsUpload result → IsUpload (Phase.Sending text before) }
+    ensures coming { (before : ℕ) → IsComing result → IsComing (Phase.Sending text before) }
     ensures counted { (before room count size : ℕ) → IsCounted (Phase.Sending text before) room count size → IsCounted result room count size }
     ensures same { (before ctrl room count size : ℕ) → IsCounted (Phase.Sending text before) room count size
         → todo_in result ctrl count size ≡ print (drop place (text_of text)) (after_text text) }
@@ -119,7 +141,7 @@ fn printing(text: Text, place: u32) -> Phase
 fn after(text: Text) -> Phase
     ensures ready { IsReady result }
     ensures started { IsStarted result }
-    ensures upload { (before : ℕ) → IsUpload result → IsUpload (Phase.Sending text before) }
+    ensures coming { (before : ℕ) → IsComing result → IsComing (Phase.Sending text before) }
     ensures counted { (before room count size : ℕ) → IsCounted (Phase.Sending text before) room count size → IsCounted result room count size }
     ensures same { (before ctrl room count size : ℕ) → IsCounted (Phase.Sending text before) room count size → todo_in result ctrl count size ≡ after_text text }
 {
@@ -148,14 +170,14 @@ fn has_room(room: u32, size: u32) -> bool
     0 < size && size % 4 == 0 && size <= room
 }
 
-/// The phase after a reply that brings no byte.
+/// The phase of the talk over UART0 after a reply that brings no byte.
 fn next_phase(phase: Phase, word: u32) -> Phase
     requires plain { IsPlain phase }
     requires ready { IsReady phase }
     requires started { IsStarted phase }
     ensures ready { IsReady result }
     ensures started { IsStarted result }
-    ensures upload { IsUpload result → IsUpload phase }
+    ensures coming { IsComing result → IsComing phase }
     ensures counted { (room count size : ℕ) → IsCounted phase room count size → IsCounted result room count size }
     ensures same { (room ctrl count size : ℕ) (mind : Mind) → IsCounted phase room count size
         → answered room ctrl (todo_in phase ctrl count size) mind word ≡ record { todo = todo_in result ctrl count size; mind = mind } }
@@ -193,39 +215,80 @@ fn next_phase(phase: Phase, word: u32) -> Phase
             }
         }
         Phase::Over => phase,
-        Phase::Unstarted | Phase::Taking(_) | Phase::Storing => unreachable!(),
+        _ => unreachable!(),
+    }
+}
+
+/// The phase of the talk with the flash after a reply that isn't the flash's answer.
+fn next_in_talk(phase: Phase, word: u32) -> Phase
+    requires talk { IsTalk phase }
+    requires ready { IsReady phase }
+    ensures ready { IsReady result }
+    ensures started { IsStarted result }
+    ensures coming { IsComing result → IsComing phase }
+    ensures counted { (room count size : ℕ) → IsCounted phase room count size → IsCounted result room count size }
+    ensures same { (room ctrl count size : ℕ) (mind : Mind)
+        → answered room ctrl (todo_in phase ctrl count size) mind word ≡ record { todo = todo_in result ctrl count size; mind = mind } }
+{
+    match phase {
+        Phase::Enabling(errand) => Phase::Selecting(Frame::Wait, errand),
+        Phase::Selecting(frame, errand) => Phase::Transferring(Transfer::Lead(frame, errand, 0)),
+        Phase::Transferring(transfer) => Phase::AwaitingAnswer(transfer),
+        Phase::AwaitingAnswer(transfer) => {
+            if meets(word, HAS_COME, HAS_COME) {
+                Phase::Answering(transfer)
+            } else {
+                phase
+            }
+        }
+        Phase::Fetching(page, index) => {
+            Phase::Transferring(Transfer::WordByte(page, index, word, 0))
+        }
+        _ => unreachable!(),
     }
 }
 
 impl MonitorState {
     /// In another phase.
-    fn at(self, phase: Phase) -> MonitorState
+    pub(crate) fn at(self, phase: Phase) -> MonitorState
         ensures { result ≡ record self { phase = phase } }
     {
         MonitorState { phase, ..self }
     }
 
-    /// In another phase, with nothing held.
+    /// In the first phase of a command or of its answer.
+    fn begun(self, phase: Phase) -> MonitorState
+        ensures { result ≡ record self { phase = phase; status = 0 } }
+    {
+        MonitorState {
+            phase,
+            status: 0,
+            ..self
+        }
+    }
+
+    /// In the first phase of a command or of its answer, with nothing held.
     fn emptied(self, phase: Phase) -> MonitorState
-        ensures { result ≡ record self { phase = phase; held = None } }
+        ensures { result ≡ record self { phase = phase; held = None; status = 0 } }
     {
         MonitorState {
             phase,
             held: None,
+            status: 0,
             ..self
         }
     }
 
     /// Begins to print a text.
     fn telling(self, text: Text) -> MonitorState
-        ensures { result ≡ record self { phase = Phase.AwaitingRoom text 0 } }
+        ensures { result ≡ record self { phase = Phase.AwaitingRoom text 0; status = 0 } }
     {
-        self.at(Phase::AwaitingRoom(text, 0))
+        self.begun(Phase::AwaitingRoom(text, 0))
     }
 
-    /// Ends an upload, with nothing held.
+    /// Ends an upload or a load, with nothing held.
     fn refused(self, text: Text) -> MonitorState
-        ensures { result ≡ record self { phase = Phase.AwaitingRoom text 0; held = None } }
+        ensures { result ≡ record self { phase = Phase.AwaitingRoom text 0; held = None; status = 0 } }
     {
         self.emptied(Phase::AwaitingRoom(text, 0))
     }
@@ -250,6 +313,8 @@ impl MonitorState {
             b'i' => self.telling(Text::Name(Setting::Imem)),
             b'r' => self.restarted(),
             b'u' => self.uploading(),
+            b's' => self.storing(),
+            b'l' => self.loading(),
             b'e' => match self.held {
                 None => self.telling(Text::NoneHeld),
                 Some(_) => self.telling(Text::Go),
@@ -270,93 +335,131 @@ impl MonitorState {
         }
     }
 
+    /// Begins to store what is held in the flash.
+    fn storing(self) -> MonitorState
+        requires sound { IsSound self }
+        ensures goes { Goes self result }
+        ensures is_in { (room : ℕ) → IsIn result (command room self.ctrl Store (held_of self)) }
+    {
+        match self.held {
+            None => self.telling(Text::NoneHeld),
+            Some(image) => self.begun(Phase::Enabling(Errand::Test(image))),
+        }
+    }
+
+    /// Begins to load an image from the flash, with nothing held.
+    fn loading(self) -> MonitorState
+        requires sound { IsSound self }
+        ensures goes { Goes self result }
+        ensures is_in { (room : ℕ) → IsIn result (command room self.ctrl Load (held_of self)) }
+    {
+        MonitorState {
+            tally: Tally::new(),
+            ..self.emptied(Phase::Enabling(Errand::ReadHeader))
+        }
+    }
+
     /// Takes a byte of a header.
-    fn took_header(self, byte: u8) -> MonitorState
+    pub(crate) fn took_header(self, source: Source, byte: u8) -> MonitorState
         requires sound { IsSound self }
         requires few { self.tally.count < 12 }
         ensures goes { Goes self result }
         ensures is_in { (bytes : List ℕ) → Counts self.tally bytes
-            → IsIn result (settled self.room self.ctrl (after_byte Purpose.Header self.tally.count self.tally.size) (mind (bytes ++ byte ∷ []) (held_of self))) }
+            → IsIn result (settled self.room self.ctrl (after_header (from_of source) self.tally.count) (mind_of self (bytes ++ byte ∷ []))) }
     {
         let tally = self.tally.with(byte);
         let next = MonitorState { tally, ..self };
         if tally.count == 12 {
-            next.judged_header()
+            next.took_whole_header(source)
         } else {
-            MonitorState {
-                phase: Phase::AwaitingByte(Purpose::Header),
-                ..next
-            }
+            next.at(awaiting_header(source))
+        }
+    }
+
+    /// Goes on after the last byte of a header.
+    fn took_whole_header(self, source: Source) -> MonitorState
+        requires size { IsSize self.room }
+        requires part { self.tally.part ≡ 0 }
+        requires count { self.tally.count ≡ 12 }
+        requires held_fits { IsHeld self.held self.room }
+        ensures goes { Goes self result }
+        ensures is_in { (bytes : List ℕ) → Counts self.tally bytes → IsIn result (settled self.room self.ctrl (judging (from_of source)) (mind_of self bytes)) }
+    {
+        match source {
+            Source::Uart => self.judged_header(source),
+            Source::Flash => self.at(Phase::Deselecting(Frame::Act, Errand::ReadHeader)),
         }
     }
 
     /// Judges a header.
-    fn judged_header(self) -> MonitorState
+    pub(crate) fn judged_header(self, source: Source) -> MonitorState
         requires size { IsSize self.room }
         requires part { self.tally.part ≡ 0 }
         requires count { self.tally.count ≡ 12 }
+        requires held_fits { IsHeld self.held self.room }
         ensures goes { Goes self result }
-        ensures is_in { (bytes : List ℕ) → Counts self.tally bytes → IsIn result (head self.room self.ctrl (mind bytes (held_of self))) }
+        ensures is_in { (bytes : List ℕ) → Counts self.tally bytes → IsIn result (head self.room self.ctrl (from_of source) (mind_of self bytes)) }
     {
         if self.tally.signature != SIGNATURE {
             self.refused(Text::BadSignature)
         } else if !has_room(self.room, self.tally.size) {
             self.refused(Text::BadSize)
         } else {
-            MonitorState {
-                phase: Phase::AwaitingByte(Purpose::Payload),
-                ..self
-            }
+            self.at(beginning_payload(source))
         }
     }
 
     /// Takes a byte of a payload.
-    fn took_payload(self, byte: u8) -> MonitorState
+    pub(crate) fn took_payload(self, source: Source, byte: u8) -> MonitorState
         requires sound { IsSound self }
         requires loading { IsLoading self.room self.tally.count self.tally.size }
         ensures goes { Goes self result }
         ensures is_in { (bytes : List ℕ) → Counts self.tally bytes
-            → IsIn result (settled self.room self.ctrl (after_byte Purpose.Payload self.tally.count self.tally.size) (mind (bytes ++ byte ∷ []) (held_of self))) }
+            → IsIn result (settled self.room self.ctrl (after_payload (from_of source) self.tally.count self.tally.size) (mind_of self (bytes ++ byte ∷ []))) }
     {
         let tally = self.tally.with(byte);
         let next = MonitorState { tally, ..self };
         if tally.count % 4 == 0 {
-            MonitorState {
-                phase: Phase::Storing,
-                ..next
-            }
+            next.at(Phase::Storing(source))
         } else {
-            MonitorState {
-                phase: Phase::AwaitingByte(Purpose::Payload),
-                ..next
-            }
+            next.at(awaiting_payload(source))
         }
     }
 
     /// Goes on after a word of the payload was stored.
-    fn stored(self) -> MonitorState
+    fn stored(self, source: Source) -> MonitorState
         requires sound { IsSound self }
         requires storing { IsStoring self.room self.tally.count self.tally.size }
         ensures goes { Goes self result }
         ensures is_in { (bytes : List ℕ) → Counts self.tally bytes
-            → IsIn result (settled self.room self.ctrl (takes_words (self.tally.count - 12) ((12 + self.tally.size - self.tally.count) / 4) (Tail ∷ [])) (mind bytes (held_of self))) }
+            → IsIn result (settled self.room self.ctrl (gathers_words (from_of source) (self.tally.count - 12) ((12 + self.tally.size - self.tally.count) / 4)) (mind_of self bytes)) }
     {
         if self.tally.count == self.tally.size + 12 {
-            self.judged()
+            self.took_whole_payload(source)
         } else {
-            MonitorState {
-                phase: Phase::AwaitingByte(Purpose::Payload),
-                ..self
-            }
+            self.at(awaiting_payload(source))
+        }
+    }
+
+    /// Goes on after the last word of a payload was stored.
+    fn took_whole_payload(self, source: Source) -> MonitorState
+        requires sound { IsSound self }
+        requires loaded { IsComplete self.room self.tally.count self.tally.size }
+        ensures goes { Goes self result }
+        ensures is_in { (bytes : List ℕ) → Counts self.tally bytes → IsIn result (settled self.room self.ctrl (checking (from_of source)) (mind_of self bytes)) }
+    {
+        match source {
+            Source::Uart => self.judged(),
+            Source::Flash => self.at(Phase::Deselecting(Frame::Act, Errand::ReadPayload)),
         }
     }
 
     /// Judges a header and its payload.
-    fn judged(self) -> MonitorState
+    pub(crate) fn judged(self) -> MonitorState
         requires sound { IsSound self }
-        requires count { 12 ≤ self.tally.count }
+        requires loaded { IsComplete self.room self.tally.count self.tally.size }
         ensures goes { Goes self result }
-        ensures is_in { (bytes : List ℕ) → Counts self.tally bytes → IsIn result (tail self.room self.ctrl (mind bytes (held_of self))) }
+        ensures is_in { (bytes : List ℕ) → Counts self.tally bytes → IsIn result (tail self.room self.ctrl (mind_of self bytes)) }
     {
         if self.tally.sum != 0 {
             self.refused(Text::BadChecksum)
@@ -377,13 +480,13 @@ impl MonitorState {
         requires sound { IsSound self }
         requires taking { self.phase ≡ Phase.Taking purpose }
         ensures goes { Goes self result }
-        ensures is_in { (s : State) → IsIn self s → IsIn result (answered self.room self.ctrl s.todo s.mind word) }
+        ensures is_in { (s : ActionState) → IsIn self s → IsIn result (answered self.room self.ctrl s.todo s.mind word) }
     {
         let byte = (word % 256) as u8;
         match purpose {
             Purpose::Command => self.commanded(byte),
-            Purpose::Header => self.took_header(byte),
-            Purpose::Payload => self.took_payload(byte),
+            Purpose::Header => self.took_header(Source::Uart, byte),
+            Purpose::Payload => self.took_payload(Source::Uart, byte),
         }
     }
 
@@ -392,11 +495,18 @@ impl MonitorState {
         requires sound { IsSound self }
         requires due { IsUnderWay self.phase }
         ensures goes { Goes self result }
-        ensures is_in { (s : State) → IsIn self s → IsIn result (answered self.room self.ctrl s.todo s.mind word) }
+        ensures is_in { (s : ActionState) → IsIn self s → IsIn result (answered self.room self.ctrl s.todo s.mind word) }
     {
         match self.phase {
             Phase::Taking(purpose) => self.took(purpose, word),
-            Phase::Storing => self.stored(),
+            Phase::Storing(source) => self.stored(source),
+            Phase::Answering(transfer) => self.transferred(transfer, word),
+            Phase::Deselecting(frame, errand) => self.deselected(frame, errand),
+            Phase::Enabling(_)
+            | Phase::Selecting(_, _)
+            | Phase::Transferring(_)
+            | Phase::AwaitingAnswer(_)
+            | Phase::Fetching(_, _) => self.at(next_in_talk(self.phase, word)),
             phase => self.at(next_phase(phase, word)),
         }
     }
@@ -419,7 +529,7 @@ impl MonitorState {
     pub(crate) fn request(self) -> MonitorOut
         requires sound { IsSound self }
         requires started { IsStarted self.phase }
-        ensures asked { (s : State) → IsIn self s → result ≡ asks s.todo s.mind.bytes }
+        ensures asked { (s : ActionState) → IsIn self s → result ≡ asks s.todo s.mind.bytes }
         ensures due { (request : Request) → result ≡ MonitorOut.Bus request → IsUnderWay self.phase }
     {
         request_in(self.phase, self.ctrl, self.tally.count, self.tally.last)

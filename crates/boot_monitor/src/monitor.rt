@@ -13,7 +13,7 @@ use crate::tally::Tally;
 use std::marker::Model;
 
 /// The boot monitor: it makes bus requests in core 0's place, until it hands over. No call takes memory.
-#[derive(Debug, Drop)]
+#[derive(Drop)]
 pub struct Monitor {
     state: MonitorState,
 }
@@ -42,6 +42,7 @@ impl Monitor {
             ctrl,
             phase: Phase::Unstarted,
             held: None,
+            status: 0,
             tally: Tally::new(),
         };
         Monitor { state }

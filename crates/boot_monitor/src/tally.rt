@@ -1,7 +1,7 @@
-//! What is kept of the bytes of an upload.
+//! What is kept of the bytes of an image.
 
 /// What is kept of the bytes of a header and a payload.
-#[derive(Clone, Copy, Debug, PartialEq, Eq)]
+#[derive(Clone, Copy)]
 pub struct Tally {
     /// How many bytes there are.
     pub count: u32,

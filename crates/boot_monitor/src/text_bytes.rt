@@ -41,7 +41,7 @@ fn name(setting: Setting) -> &'static [u8]
 }
 
 /// The byte at a place, from 0.
-fn at(text: &[u8], place: u32) -> Option<u8>
+pub(crate) fn at(text: &[u8], place: u32) -> Option<u8>
     ensures { result ≡ slice_get text.now place }
 {
     text.get(place as usize).copied()
@@ -67,6 +67,7 @@ pub(crate) fn byte_at(text: Text, place: u32) -> Option<u8>
         Text::BadSignature => at(b"ERR signature\r\n> ", place),
         Text::BadSize => at(b"ERR size\r\n> ", place),
         Text::BadChecksum => at(b"ERR checksum\r\n> ", place),
+        Text::BadFlash => at(b"ERR flash\r\n> ", place),
         Text::Go => at(b"GO\r\n", place),
     }
 }

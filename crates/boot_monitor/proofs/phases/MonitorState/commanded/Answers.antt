@@ -10,3 +10,11 @@ returns-in-114-clause-is_in c = λ room.
 pub returns-in-117-clause-is_in : goal.returns-in-117-clause-is_in
 returns-in-117-clause-is_in c = λ room.
     subst (λ b. IsIn c.uploading.result (command room c.args.self.ctrl (key_of b) (held_of c.args.self))) (sym c.in-117.is) (c.uploading.ensures.is_in room)
+
+pub returns-in-115-clause-is_in : goal.returns-in-115-clause-is_in
+returns-in-115-clause-is_in c = λ room.
+    subst (λ b. IsIn c.storing.result (command room c.args.self.ctrl (key_of b) (held_of c.args.self))) (sym c.in-115.is) (c.storing.ensures.is_in room)
+
+pub returns-in-108-clause-is_in : goal.returns-in-108-clause-is_in
+returns-in-108-clause-is_in c = λ room.
+    subst (λ b. IsIn c.loading.result (command room c.args.self.ctrl (key_of b) (held_of c.args.self))) (sym c.in-108.is) (c.loading.ensures.is_in room)
