@@ -1,15 +1,17 @@
 -- Where the bytes taken are the gate, the boot monitor says GO and hands over.
-use Rattle.std.proofs.Common.{◌≡◌, ◌≢◌, ◌⊎◌, inl, inr, ℕ, ◌^◌, ◌%◌, ◌≤◌, ◌<◌, Bool, true, false, List, [], ◌∷◌, ◌++◌, length, flat_map, codes, Option, Some, None, ◌==◌, bit_and, if◌then◌else◌, refl, sym, ap, ◌∙◌, arith, append_assoc, append-nil, length-append, subst}
+use Rattle.std.proofs.lemmas.Bool.Decides.{nat_tests}
+use Rattle.std.proofs.Common.{◌+◌, ◌≡◌, ◌≢◌, ◌⊎◌, inl, inr, ℕ, ◌^◌, ◌%◌, ◌≤◌, ◌<◌, Bool, true, false, List, [], ◌∷◌, ◌++◌, length, flat_map, codes, Option, Some, None, ◌==◌, bit_and, if◌then◌else◌, refl, sym, ap, ◌∙◌, arith, append_assoc, append-nil, length-append, subst}
 use Rattle.flash_seen.specs.Seen.{Seen}
 use Rattle.flash_seen.specs.World.{World}
-use Rattle.boot_monitor.specs.Actions.{Action, Await, Save, Leave, Key, Help, Information, Restart, Upload, Execute, Unknown, Mind, State, after, answered, asks, command, is_busy, is_full, key_of, line, load, print, settled, uart_ctrl, uart_data}
-use Rattle.boot_gate.specs.Gate.{Shown, held_from}
+use Rattle.spi_flash.specs.declared.transfer.Transfer.TheVariants.{Idle as Unselected}
+use Rattle.boot_monitor.specs.Actions.{Action, Await, Save, Leave, Key, Help, Information, Restart, Upload, Store, Load, Execute, Unknown, Mind, ActionState, after_replies, answered, asks, command, is_busy, is_full, key_of, line, load, print, settled, uart_ctrl, uart_data}
+use Rattle.boot_gate.specs.Gate.{Shown}
 use Rattle.boot_gate.specs.Items.{Item, AreItems, bytes_in, letter_e}
 use Rattle.boot_gate.specs.Laws.{IsGoing, IsHeld}
-use Rattle.boot_gate.specs.Replies.{AreTold, taken, taken_by}
-use Rattle.boot_gate.proofs.Ends.{Ends, NotGate, heading, is_upload, midst-items, not_execute}
+use Rattle.boot_gate.specs.Replies.{AreGiven, AreTold, base_of, taken, taken_by}
+use Rattle.boot_gate.proofs.Ends.{Ends, NotGate, heading, is_upload, midst-items, not_execute, results}
 use Rattle.boot_gate.proofs.Follows.{follows}
-use Rattle.boot_gate.proofs.Passing.{Around, Passes, ShownAt, awaits, clock, dmem, gets, heads, imem, keeps, leaves, opens, reports, sends, sets, stops, tails}
+use Rattle.boot_gate.proofs.Passing.{Around, Passes, ShownAt, answers, awaits, enables, fetches, clock, dmem, gets, gives, heads, imem, keeps, leaves, opens, readies, reports, selects, sends, sets, stops, tails, waits, writes}
 use Rattle.boot_gate.proofs.Unique.{last-same, one_split}
 
 abbrev end : List Action
@@ -50,7 +52,7 @@ is_going (puts front b text e) = record {
 }
 is_going over = record { done = print (line (codes "GO")) (Await uart_ctrl is_busy 0 ∷ []); whole = refl; some = cons_some Leave [] }
 
-go_by : (b : Bool) (x y : State) → IsGo x.todo → IsGo y.todo → IsGo (if◌then◌else◌ {A = State} b x y).todo
+go_by : (b : Bool) (x y : ActionState) → IsGo x.todo → IsGo y.todo → IsGo (if◌then◌else◌ {A = ActionState} b x y).todo
 go_by true x y h k = h
 go_by false x y h k = k
 
@@ -69,24 +71,24 @@ go_step room ctrl i reply (puts front b text e) =
     subst IsGo (sym (settled_print room ctrl text i)) (prints (front ++ b ∷ []) text (append_assoc front (b ∷ []) text ∙ e))
 go_step room ctrl i reply over = over
 
-module _ (room ctrl : ℕ) (shown : Shown) (Told : Type 0) (small : room ≤ 2 ^ 20) where
+module _ (room ctrl : ℕ) (shown : Shown) (Told : Type 0) (small : room ≤ 2 ^ 20) (first : Seen) where
   abbrev No : List ℕ → Type 0
-  No = NotGate room shown Told
+  No = NotGate room shown Told (base_of first)
 
   other_byte : (items : List Item) (heard : List ℕ) (b : ℕ) → heard ≡ flat_map bytes_in items ++ b ∷ [] → b ≢ letter_e → No heard
   other_byte items heard b e n js each same = elim (n (last-same (flat_map bytes_in items) (flat_map bytes_in js) b letter_e (sym e ∙ same)).1) [ ]
 
-  none_held : (items : List Item) (heard : List ℕ) (b : ℕ) → heard ≡ flat_map bytes_in items ++ b ∷ [] → AreItems room items → held_from None items ≡ None → No heard
+  none_held : (items : List Item) (heard : List ℕ) (b : ℕ) → heard ≡ flat_map bytes_in items ++ b ∷ [] → AreItems room items → (results room shown Told (base_of first) items).held ≡ None → No heard
   none_held items heard b e all none js each same =
       let bytes : flat_map bytes_in items ≡ flat_map bytes_in js = (last-same (flat_map bytes_in items) (flat_map bytes_in js) b letter_e (sym e ∙ same)).0 in
       let one : (items ≡ js) × ([] ≡ []) = one_split room (flat_map bytes_in items) items js [] []
       (record { whole = sym (append-nil (flat_map bytes_in items)); each = all; partial = inl refl })
       (record { whole = bytes ∙ sym (append-nil (flat_map bytes_in js)); each = each; partial = inl refl }) in
-      ap (held_from None) (sym one.0) ∙ none
+      ap (λ items. (results room shown Told (base_of first) items).held) (sym one.0) ∙ none
 
   -- after a command
   after_command : (k : Key) (kept : Option (ℕ × ℕ)) (image : Option (List ℕ)) (items : List Item) (heard memory : List ℕ) (b : ℕ)
-      → key_of b ≡ k → heard ≡ flat_map bytes_in items ++ b ∷ [] → AreItems room items → held_from None items ≡ image → IsHeld kept image memory
+      → key_of b ≡ k → heard ≡ flat_map bytes_in items ++ b ∷ [] → AreItems room items → (results room shown Told (base_of first) items).held ≡ image → IsHeld kept image memory
       → No heard ⊎ IsGo (command room ctrl k kept).todo
   after_command Upload kept image items heard memory b e w all eq is =
       inl (λ js each same. elim (midst-items room items js [] (heading (omega arith)) all each (ap (λ b. flat_map bytes_in items ++ b ∷ []) (sym (is_upload b e)) ∙ sym w ∙ same)) [ ])
@@ -94,6 +96,8 @@ module _ (room ctrl : ℕ) (shown : Shown) (Told : Type 0) (small : room ≤ 2 ^
   after_command Execute None (Some payload) items heard memory b e w all eq is = elim is [ ]
   after_command Execute (Some kept) None items heard memory b e w all eq is = elim is [ ]
   after_command Execute (Some kept) (Some payload) items heard memory b e w all eq is = inr (prints [] (line (codes "GO")) refl)
+  after_command Store kept image items heard memory b e w all eq is = inl (other_byte items heard b w (not_execute b Store e (λ q. let bad : ⊥ = cc in bad)))
+  after_command Load kept image items heard memory b e w all eq is = inl (other_byte items heard b w (not_execute b Load e (λ q. let bad : ⊥ = cc in bad)))
   after_command Restart kept image items heard memory b e w all eq is = inl (other_byte items heard b w (not_execute b Restart e (λ q. let bad : ⊥ = cc in bad)))
   after_command Help kept image items heard memory b e w all eq is = inl (other_byte items heard b w (not_execute b Help e (λ q. let bad : ⊥ = cc in bad)))
   after_command Information kept image items heard memory b e w all eq is = inl (other_byte items heard b w (not_execute b Information e (λ q. let bad : ⊥ = cc in bad)))
@@ -111,12 +115,18 @@ module _ (room ctrl : ℕ) (shown : Shown) (Told : Type 0) (small : room ≤ 2 ^
   small_byte : (reply : ℕ) → reply % 256 < 256
   small_byte reply = omega arith
 
+  memory_heard : (address reply : ℕ) (heard : List ℕ) → address + 4 ≤ room → No heard → No (taken_by heard (load address) reply)
+  memory_heard address reply heard l n = same_heard (address == uart_data) heard (heard ++ reply % 256 ∷ []) (other address l) n
+    where
+      other : (address : ℕ) → address + 4 ≤ room → (address == uart_data) ≡ false
+      other address l = let below : address < 2 ^ 20 = omega (arith, l, small) in grind (arith, nat_tests)
+
   -- one reply more
-  tracked : {todo : List Action} {i : Mind} {w : World} {m : Around} (reply : ℕ) → Passes room ctrl shown Told (Ends room shown Told) todo i w m → No m.heard
+  tracked : {todo : List Action} {i : Mind} {w : World} {m : Around} (reply : ℕ) → Passes room ctrl shown Told (Ends room shown Told (base_of first)) todo i w m → No m.heard
       → No (taken_by m.heard (asks todo i.bytes) reply) ⊎ IsGo (answered room ctrl todo i reply).todo
   tracked {i = i} {m = m} reply (stops h) n =
-      after_command (key_of (reply % 256)) i.held (held_from None h.items) h.items (m.heard ++ reply % 256 ∷ []) m.memory (reply % 256)
-      refl (ap (λ x. x ++ reply % 256 ∷ []) h.whole) h.each refl h.kept
+      after_command (key_of (reply % 256)) i.held (results room shown Told (base_of first) h.items).held h.items (m.heard ++ reply % 256 ∷ []) m.memory (reply % 256)
+      refl (ap (λ x. x ++ reply % 256 ∷ []) h.whole) h.each refl h.keeping.kept
   tracked reply (leaves h) n = inl n
   tracked reply (gets q h) n = inl (q (reply % 256) (small_byte reply))
   tracked reply (awaits h) n = inl n
@@ -125,18 +135,26 @@ module _ (room ctrl : ℕ) (shown : Shown) (Told : Type 0) (small : room ≤ 2 ^
   tracked reply (sends h) n = inl n
   tracked {m = m} reply (reports {address = address} {word = word} a h) n = inl (shown_heard address word reply m.heard a n)
   tracked reply (keeps a b h) n = inl n
+  tracked reply (enables h) n = inl n
+  tracked reply (gives a h) n = inl n
+  tracked reply (selects a h) n = inl n
+  tracked reply (readies e h) n = inl n
+  tracked reply (answers e h) n = inl n
+  tracked {m = m} reply (fetches {address = address} a b h) n = inl (memory_heard address reply m.heard b n)
+  tracked reply (waits s t f e h) n = inl n
+  tracked reply (writes h) n = inl n
   tracked {m = m} reply (heads h) n = inl n
   tracked {m = m} reply (tails h) n = inl n
 
   no_end : (xs : List ℕ) (b : ℕ) → [] ≡ xs ++ b ∷ [] → ⊥
   no_end xs b e = omega (arith, ap length e, length-append xs (b ∷ []))
 
-  -- after any replies: the bytes taken are no gate, or the last actions are left
-  pub tracks : (first : Seen) (before : List ℕ) → length before ≡ room → (replies : List ℕ) → (Told → AreTold room ctrl shown replies)
-      → No (taken room ctrl replies) ⊎ IsGo (after room ctrl replies).todo
-  tracks first before long [] told = inl (λ js each e. elim (no_end (flat_map bytes_in js) letter_e e) [ ])
-  tracks first before long (reply ∷ replies) told = elim (tracks first before long replies (λ t. (told t).1))
-      as (λ _. No (taken room ctrl (reply ∷ replies)) ⊎ IsGo (after room ctrl (reply ∷ replies)).todo) [
-        | inl n ↦ tracked reply (follows room ctrl shown Told small first before long replies (λ t. (told t).1)) n
-        | inr go ↦ inr (go_step room ctrl (after room ctrl replies).mind reply go)
+  -- after replies such as a flash and IMEM give: the bytes taken are no gate, or the last actions are left
+  pub tracks : (before : List ℕ) → length before ≡ room → first.transfer ≡ Unselected → (replies : List ℕ) → (Told → AreTold room ctrl shown replies) → AreGiven room ctrl first before replies
+      → No (taken room ctrl replies) ⊎ IsGo (after_replies room ctrl replies).todo
+  tracks before long away [] told given = inl (λ js each e. elim (no_end (flat_map bytes_in js) letter_e e) [ ])
+  tracks before long away (reply ∷ replies) told given = elim (tracks before long away replies (λ t. (told t).1) given.1)
+      as (λ _. No (taken room ctrl (reply ∷ replies)) ⊎ IsGo (after_replies room ctrl (reply ∷ replies)).todo) [
+        | inl n ↦ tracked reply (follows room ctrl shown Told small first before long away replies (λ t. (told t).1) given.1) n
+        | inr go ↦ inr (go_step room ctrl (after_replies room ctrl replies).mind reply go)
       ]

@@ -2,9 +2,14 @@ pub mod Ends
 pub mod Follows
 pub mod Gates
 pub mod Goes
+pub mod Held
 pub mod Images
+pub mod Loading
+pub mod Maps
 pub mod Passing
 pub mod Splits
 pub mod Stores
+pub mod Storing
 pub mod Taking
+pub mod Transfers
 pub mod Unique

@@ -1,17 +1,20 @@
 -- Memory after words of a payload were stored one after another.
 use Rattle.std.proofs.Common.{◌≡◌, ◌^◌, ℕ, zero, suc, ◌+◌, ◌-◌, ◌/◌, ◌%◌, ◌<◌, ◌≤◌, Bool, true, false, List, [], ◌∷◌, ◌++◌, length, take, drop, get_or, nat_le, ◌==◌, if◌then◌else◌, Option, Some, None, Ok, refl, ap, ap₂, ◌∙◌, arith, append_assoc, append-nil, length-append, take-append-drop, take_all, subst}
 use Rattle.std.proofs.lemmas.Bool.Decides.{nat_tests}
+use Rattle.std.specs.Int.{from_le_bytes, w32}
+use Rattle.std.specs.List.{slice_range}
 use Rattle.std.proofs.lemmas.List.{drop-drop, take-append-le}
 use Rattle.std.proofs.Math.Seq.{drop-append-add}
-use Rattle.image_tool.specs.Image.{AreBytes, word_of}
-use Rattle.soc_bus.specs.Memory.{MemoryState, low_bytes, store_of, with_bytes}
+use Rattle.image_tool.specs.Image.{AreBytes, word_at, word_of}
+use Rattle.image_tool.proofs.WordLemmas.{drop_word}
+use Rattle.soc_bus.specs.Memory.{MemoryState, load_of, low_bytes, store_of, with_bytes}
 use Rattle.soc_bus.specs.declared.access.Width.TheVariants.{Word}
 use Rattle.soc_bus.proofs.Bytes.{length_with_bytes}
 use Rattle.boot_monitor.specs.Actions.{last_word}
 use Rattle.boot_monitor.specs.declared.exchange.MonitorOut.{MonitorOut}
 use Rattle.boot_monitor.specs.declared.exchange.MonitorOut.TheVariants.{Bus, HandOver}
 use Rattle.boot_gate.specs.Laws.{BeginsWith}
-use Rattle.boot_gate.specs.Replies.{stored_at, stored_by}
+use Rattle.boot_gate.specs.Replies.{stored_by, word_stored}
 
 -- the word of the last four bytes
 
@@ -83,21 +86,37 @@ low_length : (value : ℕ) → length (low_bytes Word value) ≡ 4
 low_length value = refl
 
 -- a store below the end of memory, as IMEM's words are
-pub stored_inside : (memory : List ℕ) (address value : ℕ) → address + 4 ≤ length memory → stored_at memory address (Some value) ≡ with_bytes memory address (low_bytes Word value)
+pub stored_inside : (memory : List ℕ) (address value : ℕ) → address + 4 ≤ length memory → word_stored memory address (Some value) ≡ with_bytes memory address (low_bytes Word value)
 stored_inside memory address value h = let t : nat_le (address + 4) (length memory) ≡ true = grind (arith, nat_tests) in rw t refl
 
 -- a store above it, as to a register
-pub stored_outside : (memory : List ℕ) (address value : ℕ) → length memory ≤ 2 ^ 20 → 2 ^ 20 < address → stored_at memory address (Some value) ≡ memory
+pub stored_outside : (memory : List ℕ) (address value : ℕ) → length memory ≤ 2 ^ 20 → 2 ^ 20 < address → word_stored memory address (Some value) ≡ memory
 stored_outside memory address value l h = let t : nat_le (address + 4) (length memory) ≡ false = grind (arith, nat_tests) in rw t refl
 
 -- the bus stores a word of IMEM likewise
 pub stored_by_bus : (m : MemoryState) (address value : ℕ) → address % 4 ≡ 0 → address + 4 ≤ length m.imem → length m.imem ≤ 2 ^ 20
-    → store_of m address Word value ≡ Ok (record m { imem = stored_at m.imem address (Some value) })
+    → store_of m address Word value ≡ Ok (record m { imem = word_stored m.imem address (Some value) })
 stored_by_bus m address value four h l =
     let aligned : (address % 4 == 0) ≡ true = grind (arith, nat_tests) in
     let below : nat_le (2 ^ 31) address ≡ false = grind (arith, nat_tests) in
     let within : nat_le (address + 4) (length m.imem) ≡ true = grind (arith, nat_tests) in
     rw (aligned, below, within) refl
+
+-- a word's four bytes, by the memory's map
+load_bytes : (bytes : List ℕ) (at : ℕ) → at + 4 ≤ length bytes → from_le_bytes w32 (slice_range bytes at (at + 4)) ≡ word_at bytes at
+load_bytes bytes at h =
+    let four : at + 4 - at ≡ 4 = omega arith in
+    let here : slice_range bytes at (at + 4) ≡ get_or bytes at 0 ∷ get_or bytes (at + 1) 0 ∷ get_or bytes (at + 2) 0 ∷ get_or bytes (at + 3) 0 ∷ [] =
+    ap (λ n. take n (drop at bytes)) four ∙ ap (take 4) (drop_word bytes at h) in
+    ap (from_le_bytes w32) here ∙ omega arith
+
+-- and it loads the word that stands there
+pub loaded_by_bus : (m : MemoryState) (address : ℕ) → address % 4 ≡ 0 → address + 4 ≤ length m.imem → length m.imem ≤ 2 ^ 20 → load_of m address Word ≡ Ok (word_at m.imem address)
+loaded_by_bus m address four h l =
+    let aligned : (address % 4 == 0) ≡ true = grind (arith, nat_tests) in
+    let below : nat_le (2 ^ 31) address ≡ false = grind (arith, nat_tests) in
+    let within : nat_le (address + 4) (length m.imem) ≡ true = grind (arith, nat_tests) in
+    rw (aligned, below, within) (ap Ok (load_bytes m.imem address h))
 
 -- a request leaves memory as long as it was
 
@@ -106,10 +125,11 @@ stored_length_by : (memory : List ℕ) (address value : ℕ) (t : Bool) → nat_
 stored_length_by memory address value true e = length_with_bytes memory address (low_bytes Word value) (grind (arith, nat_tests))
 stored_length_by memory address value false e = refl
 
-stored_at_length : (memory : List ℕ) (address : ℕ) (value : Option ℕ) → length (stored_at memory address value) ≡ length memory
+stored_at_length : (memory : List ℕ) (address : ℕ) (value : Option ℕ) → length (word_stored memory address value) ≡ length memory
 stored_at_length memory address None = refl
 stored_at_length memory address (Some value) = stored_length_by memory address value (nat_le (address + 4) (length memory)) refl
 
+-- for each of the monitor's requests
 pub stored_length : (memory : List ℕ) (request : MonitorOut) → length (stored_by memory request) ≡ length memory
 stored_length memory (Bus request) = stored_at_length memory request.addr request.store
 stored_length memory HandOver = refl
