@@ -1,31 +1,40 @@
 -- The steps of a cycle, as the code of a hub makes them.
 use Rattle.std.proofs.Common.{◌≡◌, ℕ, List, Option, refl, subst, sym, ap}
+use Rattle.chip_base.specs.declared.boot.Boot.{Boot}
 use Rattle.chip_base.specs.declared.message.Down.{Down}
 use Rattle.chip_base.specs.declared.message.Up.{Up}
 use Rattle.core_pair.specs.declared.phase.Phase.TheVariants.{Want}
 use Rattle.soc_bus.specs.declared.access.Request.{Request}
 use Rattle.chip_hub.specs.Access.{accessed}
-use Rattle.chip_hub.specs.Cycle.{answered0, arrived, hub_cycle, seat_after, served, served0, timed, turn0, turn1, wanted0, wants_of}
+use Rattle.chip_hub.specs.Cycle.{answered_core0, arrived, closed, hub_worked, reset_by, seat_after, served, served_core0, timed, turn0, turn1, wanted0, wants_of}
 use Rattle.chip_hub.specs.Kept.{HubKept, SeatKept, SeatStands, StepStands}
-use Rattle.chip_hub.specs.Seat.{Seat}
+use Rattle.chip_hub.specs.Seat.{Seat, seat_reset}
+use Rattle.chip_hub.specs.Start.{hub_reset}
 use Rattle.chip_hub.specs.State.{HubState, HubStep}
+use Rattle.chip_hub.specs.Units.{resets}
 
 -- core 0 is granted the request that it waits for
 pub want_served : (s new : HubState) (k : SeatKept) (seat : Seat) (request : Request) (sent : List (Option Down)) → s.core0.phase ≡ Want request
-    → ◌≡◌ {A = HubStep} (record { hub = new; seat = seat; downs = sent }) (answered0 (accessed s request) seat (Want request)) → SeatStands k seat
-    → StepStands (record { hub = new; seat = k }) sent (served0 s seat (wanted0 seat s.core0.phase))
+    → ◌≡◌ {A = HubStep} (record { hub = new; seat = seat; downs = sent }) (answered_core0 (accessed s request) seat (Want request)) → SeatStands k seat
+    → StepStands (record { hub = new; seat = k }) sent (served_core0 s seat (wanted0 seat s.core0.phase))
 want_served s new k seat request sent e step h =
     let kept : HubKept = record { hub = new; seat = k } in
-    let given : StepStands kept sent (answered0 (accessed s request) seat (Want request))
+    let given : StepStands kept sent (answered_core0 (accessed s request) seat (Want request))
     = subst (λ step. StepStands kept sent step) step (record { hub = refl; seat = h; downs = refl }) in
-    subst (λ wanted. StepStands kept sent (served0 s seat wanted)) (sym (ap (wanted0 seat) e))
-    (subst (λ phase. StepStands kept sent (answered0 (accessed s request) seat phase)) (sym e) given)
+    subst (λ wanted. StepStands kept sent (served_core0 s seat wanted)) (sym (ap (wanted0 seat) e))
+    (subst (λ phase. StepStands kept sent (answered_core0 (accessed s request) seat phase)) (sym e) given)
 
--- all six steps
+-- all six steps of a cycle without a Fire
 pub cycle_stands : (s at_time after_core0 after_core1 : HubState) (seat : Seat) (now wants : ℕ) (ups : List (Option Up)) (kept : HubKept) (sent : List (Option Down))
     → at_time ≡ timed (arrived s ups) → after_core0 ≡ turn0 at_time seat now → after_core1 ≡ turn1 after_core0 now
     → wants ≡ wants_of after_core1 (seat_after seat now at_time.core0.phase)
     → StepStands kept sent (served after_core1 (seat_after seat now at_time.core0.phase) wants)
-    → StepStands kept sent (hub_cycle s seat now ups)
-unfolding hub_cycle
+    → StepStands kept sent (hub_worked s seat now ups)
+unfolding hub_worked
 cycle_stands s at_time after_core0 after_core1 seat now wants ups kept sent a b c w step = rw (w, c, b, a) at step
+
+-- the steps of a cycle in which a Fire arrives
+pub reset_stands : (s heard shut new : HubState) (k : SeatKept) (seat : Seat) (boot : Boot) (ups : List (Option Up))
+    → heard ≡ arrived s ups → shut ≡ record heard { fronts = closed heard.fronts } → new ≡ hub_reset boot shut.clock shut.memory shut.fronts → boot ≡ seat.boot
+    → SeatStands k (seat_reset seat) → StepStands (record { hub = new; seat = k }) resets (reset_by s seat ups)
+reset_stands s heard shut new k seat boot ups a b d e h = record { hub = rw (d, e, b, a) refl; seat = h; downs = refl }

@@ -1,8 +1,9 @@
 -- What one cycle of the hub does to the fronts of its units.
-use Rattle.std.proofs.Common.{◌≡◌, ◌≤◌, ◌+◌, ◌-◌, ℕ, Bool, true, false, eqb, List, Option, None, Some, Result, Ok, Err, refl, sym, subst, arith}
-use Rattle.std.specs.Prelude.{get_or, ◌&&◌, not}
+use Rattle.std.proofs.Common.{◌≡◌, ◌≤◌, ◌+◌, ◌-◌, ℕ, Bool, true, false, eqb, List, Option, None, Some, Result, Ok, Err, refl, sym, subst, ap, arith}
+use Rattle.std.specs.Prelude.{get_or, if◌then◌else◌, ◌&&◌, not}
 use Rattle.std.proofs.lemmas.Bool.Decides.{nat_tests}
 use Rattle.chip_base.specs.declared.message.Down.{Down}
+use Rattle.chip_base.specs.declared.message.Down.TheVariants.{Reset}
 use Rattle.chip_base.specs.declared.message.Up.{Up}
 use Rattle.chip_base.specs.declared.chip_unit.ChipUnit.{ChipUnit}
 use Rattle.chip_base.specs.declared.chip_unit.ChipUnit.TheVariants.{Uart0, Uart1, Spi, Gpio, Pwm, Slink, Wdt}
@@ -19,19 +20,21 @@ use Rattle.soc_bus.specs.declared.arbiter.Master.TheVariants.{Core0, Core1, Dma 
 use Rattle.core_pair.specs.Core.{wanted_in}
 use Rattle.dma_unit.specs.DmaRegisters.{dma_wanted}
 use Rattle.unit_fronts.specs.Counts.{SpendsCredits}
-use Rattle.unit_fronts.specs.SerialRegisters.{SerialRegisters, serial_is_open}
+use Rattle.unit_fronts.specs.Owed.{one_more}
+use Rattle.unit_fronts.specs.SerialRegisters.{SerialRegisters, serial_closed, serial_is_open}
 use Rattle.unit_fronts.specs.GpioFront.{GpioRegisters, gpio_answered, gpio_arrived, gpio_arrived_open, gpio_sent, gpio_stored, gpio_stored_open}
 use Rattle.unit_fronts.specs.PwmFront.{PwmRegisters, pwm_arrived, pwm_sent, pwm_stored}
 use Rattle.unit_fronts.specs.SerialFront.{SerialKind, serial_loaded, serial_stored, serial_sent}
 use Rattle.unit_fronts.specs.SpiFront.{spi_kind}
 use Rattle.unit_fronts.specs.UartFront.{uart_kind}
+use Rattle.unit_fronts.specs.WdtFront.{WatchdogRegisters, watchdog_arrived, watchdog_sent, watchdog_stored}
 use Rattle.unit_fronts.proofs.Counts.{loads, spends}
 use Rattle.chip_base.specs.UnitTable.{link_place, unit_numbered}
 use Rattle.chip_hub.specs.Access.{Accessed, accessed, accessed_by, in_clint, in_device, in_dma, in_mailbox, in_memory, in_numbered, in_region, in_sysinfo, memory_stored}
-use Rattle.chip_hub.specs.Cycle.{arrived, arrived_at_gpio, arrived_at_pwm, hub_cycle, seat_after, served, served0, served1, served2, served_to, timed, turn0, turn1, wanted0, wants_of}
+use Rattle.chip_hub.specs.Cycle.{arrived, arrived_at_gpio, arrived_at_pwm, arrived_at_watchdog, closed, fires, hub_cycle, hub_worked, reset_by, seat_after, served, served_core0, served_core1, served_dma, served_to, timed, turn0, turn1, wanted0, wants_of}
 use Rattle.chip_hub.specs.Seat.{Seat}
-use Rattle.chip_hub.specs.State.{Fronts, HubState}
-use Rattle.chip_hub.specs.Units.{at_gpio, at_pwm, at_serial, fronts_after, messages_in, only_to, silent, unit_down}
+use Rattle.chip_hub.specs.State.{Fronts, HubState, HubStep}
+use Rattle.chip_hub.specs.Units.{at_gpio, at_pwm, at_serial, at_watchdog, fronts_after, messages_in, only_to, resets, silent, unit_down}
 
 -- a relation between the fronts before an access, the fronts after it and the messages that go down holds of every access
 pub record HoldsOfAccesses (Q : Fronts → Fronts → List (Option Down) → Type 0) : Type 0 where
@@ -96,17 +99,17 @@ unfolding accessed
 every_access Q h s r = found_access Q h s r (admitted r _ _)
 
 core0_access : (Q : Fronts → Fronts → List (Option Down) → Type 0) → HoldsOfAccesses Q → (s : HubState) (seat : Seat) (wanted : Option Request)
-    → Q s.fronts (served0 s seat wanted).hub.fronts (served0 s seat wanted).downs
+    → Q s.fronts (served_core0 s seat wanted).hub.fronts (served_core0 s seat wanted).downs
 core0_access Q h s seat None = h.no_front s.fronts
 core0_access Q h s seat (Some request) = every_access Q h s request
 
 core1_access : (Q : Fronts → Fronts → List (Option Down) → Type 0) → HoldsOfAccesses Q → (s : HubState) (seat : Seat) (wanted : Option Request)
-    → Q s.fronts (served1 s seat wanted).hub.fronts (served1 s seat wanted).downs
+    → Q s.fronts (served_core1 s seat wanted).hub.fronts (served_core1 s seat wanted).downs
 core1_access Q h s seat None = h.no_front s.fronts
 core1_access Q h s seat (Some request) = every_access Q h s request
 
 dma_served : (Q : Fronts → Fronts → List (Option Down) → Type 0) → HoldsOfAccesses Q → (s : HubState) (seat : Seat) (wanted : Option Request)
-    → Q s.fronts (served2 s seat wanted).hub.fronts (served2 s seat wanted).downs
+    → Q s.fronts (served_dma s seat wanted).hub.fronts (served_dma s seat wanted).downs
 dma_served Q h s seat None = h.no_front s.fronts
 dma_served Q h s seat (Some request) = every_access Q h s request
 
@@ -121,14 +124,40 @@ served_fronts : (Q : Fronts → Fronts → List (Option Down) → Type 0) → Ho
     → Q s.fronts (served s seat wants).hub.fronts (served s seat wants).downs
 served_fronts Q h s seat wants = grant Q h _ seat (granted s.arbiter wants)
 
--- after the arrivals, a cycle makes one access at most
-pub cycle_fronts : (Q : Fronts → Fronts → List (Option Down) → Type 0) → HoldsOfAccesses Q → (s : HubState) (seat : Seat) (now : ℕ) (ups : List (Option Up))
-    → Q (arrived s ups).fronts (hub_cycle s seat now ups).hub.fronts (hub_cycle s seat now ups).downs
-unfolding hub_cycle
-cycle_fronts Q h s seat now ups =
+-- after the arrivals, a cycle without a reset makes one access at most
+pub worked_fronts : (Q : Fronts → Fronts → List (Option Down) → Type 0) → HoldsOfAccesses Q → (s : HubState) (seat : Seat) (now : ℕ) (ups : List (Option Up))
+    → Q (arrived s ups).fronts (hub_worked s seat now ups).hub.fronts (hub_worked s seat now ups).downs
+unfolding hub_worked
+worked_fronts Q h s seat now ups =
     let after : HubState = turn1 (turn0 (timed (arrived s ups)) seat now) now in
     let then_seat : Seat = seat_after seat now s.core0.phase in
     served_fronts Q h after then_seat (wants_of after then_seat)
+
+-- a cycle by whether a Fire arrives
+pub cycle_by : (fired : Bool) (s : HubState) (seat : Seat) (now : ℕ) (ups : List (Option Up)) → fires ups ≡ fired
+    → hub_cycle s seat now ups ≡ (if fired then reset_by s seat ups else hub_worked s seat now ups)
+unfolding hub_cycle
+cycle_by fired s seat now ups e = ap (λ (b : Bool). if b then reset_by s seat ups else hub_worked s seat now ups) e
+
+-- what a cycle does to a front that has heard what arrives: without a Fire one access at most, and with one it closes and its Reset goes down
+pub record CycleServes {F : Type 0} (close : F → F) (Serves : F → Option Down → F → Type 0) (fired : Bool) (old : F) (down : Option Down) (new : F) : Type 0 where
+  pub works : fired ≡ false → Serves old down new
+  pub closes : fired ≡ true → (new ≡ close old) × (down ≡ Some Reset)
+
+-- what a cycle does to a front, or to a number that it keeps, by what an access and closing do
+cycle_serves : {F : Type 0} (close : F → F) (Serves : F → Option Down → F → Type 0) (kept : Fronts → F) (place : ℕ)
+    → HoldsOfAccesses (λ old new downs. Serves (kept old) (get_or downs place None) (kept new))
+    → ((f : Fronts) → kept (closed f) ≡ close (kept f)) → get_or resets place None ≡ Some Reset
+    → (s : HubState) (seat : Seat) (now : ℕ) (ups : List (Option Up))
+    → CycleServes close Serves (fires ups) (kept (arrived s ups).fronts) (get_or (hub_cycle s seat now ups).downs place None) (kept (hub_cycle s seat now ups).hub.fronts)
+cycle_serves close Serves kept place h shuts resets_it s seat now ups = record {
+  works = λ e.
+      subst (λ (step : HubStep). Serves (kept (arrived s ups).fronts) (get_or step.downs place None) (kept step.hub.fronts)) (sym (cycle_by false s seat now ups e))
+      (worked_fronts (λ old new downs. Serves (kept old) (get_or downs place None) (kept new)) h s seat now ups);
+  closes = λ e.
+      subst (λ (step : HubStep). (kept step.hub.fronts ≡ close (kept (arrived s ups).fronts)) × (get_or step.downs place None ≡ Some Reset)) (sym (cycle_by true s seat now ups e))
+      (shuts (arrived s ups).fronts, resets_it);
+}
 
 -- one message to a unit is the only one
 one_to : (unit : ChipUnit) (down : Option Down) → messages_in (only_to unit down) ≤ 1
@@ -201,11 +230,11 @@ uart0_reached f r Wdt reg = serves_nothing at_data f.uart0
 
 -- what a cycle does to the front of uart0, after the arrivals
 pub serves_uart0 : (s : HubState) (seat : Seat) (now : ℕ) (ups : List (Option Up))
-    → ServesSerial at_data (arrived s ups).fronts.uart0 (get_or (hub_cycle s seat now ups).downs (link_place Uart0) None) (hub_cycle s seat now ups).hub.fronts.uart0
-serves_uart0 = cycle_fronts (λ old new downs. ServesSerial at_data old.uart0 (get_or downs (link_place Uart0) None) new.uart0) (record {
+    → CycleServes serial_closed (ServesSerial at_data) (fires ups) (arrived s ups).fronts.uart0 (get_or (hub_cycle s seat now ups).downs (link_place Uart0) None) (hub_cycle s seat now ups).hub.fronts.uart0
+serves_uart0 = cycle_serves serial_closed (ServesSerial at_data) (λ (f : Fronts). f.uart0) (link_place Uart0) (record {
   no_front = λ f. serves_nothing at_data f.uart0;
   device = λ s r unit reg. uart0_reached s.fronts r unit reg;
-})
+}) (λ f. refl) refl
 
 -- what an access to a unit's registers does to the front of uart1
 uart1_reached : (f : Fronts) (r : Request) (unit : ChipUnit) (reg : ℕ) → ServesSerial at_data f.uart1 (get_or (only_to unit (unit_down f r unit reg)) (link_place Uart1) None) (fronts_after f r unit reg).uart1
@@ -219,11 +248,11 @@ uart1_reached f r Wdt reg = serves_nothing at_data f.uart1
 
 -- what a cycle does to the front of uart1, after the arrivals
 pub serves_uart1 : (s : HubState) (seat : Seat) (now : ℕ) (ups : List (Option Up))
-    → ServesSerial at_data (arrived s ups).fronts.uart1 (get_or (hub_cycle s seat now ups).downs (link_place Uart1) None) (hub_cycle s seat now ups).hub.fronts.uart1
-serves_uart1 = cycle_fronts (λ old new downs. ServesSerial at_data old.uart1 (get_or downs (link_place Uart1) None) new.uart1) (record {
+    → CycleServes serial_closed (ServesSerial at_data) (fires ups) (arrived s ups).fronts.uart1 (get_or (hub_cycle s seat now ups).downs (link_place Uart1) None) (hub_cycle s seat now ups).hub.fronts.uart1
+serves_uart1 = cycle_serves serial_closed (ServesSerial at_data) (λ (f : Fronts). f.uart1) (link_place Uart1) (record {
   no_front = λ f. serves_nothing at_data f.uart1;
   device = λ s r unit reg. uart1_reached s.fronts r unit reg;
-})
+}) (λ f. refl) refl
 
 -- what an access to a unit's registers does to the front of spi
 spi_reached : (f : Fronts) (r : Request) (unit : ChipUnit) (reg : ℕ) → ServesSerial at_either_data f.spi (get_or (only_to unit (unit_down f r unit reg)) (link_place Spi) None) (fronts_after f r unit reg).spi
@@ -237,11 +266,11 @@ spi_reached f r Wdt reg = serves_nothing at_either_data f.spi
 
 -- what a cycle does to the front of spi, after the arrivals
 pub serves_spi : (s : HubState) (seat : Seat) (now : ℕ) (ups : List (Option Up))
-    → ServesSerial at_either_data (arrived s ups).fronts.spi (get_or (hub_cycle s seat now ups).downs (link_place Spi) None) (hub_cycle s seat now ups).hub.fronts.spi
-serves_spi = cycle_fronts (λ old new downs. ServesSerial at_either_data old.spi (get_or downs (link_place Spi) None) new.spi) (record {
+    → CycleServes serial_closed (ServesSerial at_either_data) (fires ups) (arrived s ups).fronts.spi (get_or (hub_cycle s seat now ups).downs (link_place Spi) None) (hub_cycle s seat now ups).hub.fronts.spi
+serves_spi = cycle_serves serial_closed (ServesSerial at_either_data) (λ (f : Fronts). f.spi) (link_place Spi) (record {
   no_front = λ f. serves_nothing at_either_data f.spi;
   device = λ s r unit reg. spi_reached s.fronts r unit reg;
-})
+}) (λ f. refl) refl
 
 -- what an access does to the answers that a front without entries waits for: nothing, and it sends no Reset
 pub record ServesAnswers (old : ℕ) (down : Option Down) (new : ℕ) : Type 0 where
@@ -269,6 +298,13 @@ pwm_store p reg word false b e f = rw e record { owed = refl; no_reset = refl }
 pwm_store p reg word true true e f = record { owed = rw (e, f) refl; no_reset = rw e refl }
 pwm_store p reg word true false e f = record { owed = rw (e, f) refl; no_reset = rw e refl }
 
+wdt_store : (p : WatchdogRegisters) (reg word : ℕ) (open_now control feeds : Bool) → eqb p.owed 0 ≡ open_now → eqb reg 0 ≡ control → (eqb reg 4 && eqb word 0xfeed) ≡ feeds
+    → ServesAnswers p.owed (watchdog_sent p reg word) (watchdog_stored p reg word).owed
+wdt_store p reg word false b c e f g = rw e record { owed = refl; no_reset = refl }
+wdt_store p reg word true true c e f g = record { owed = rw (e, f) refl; no_reset = rw (e, f) refl }
+wdt_store p reg word true false true e f g = record { owed = rw (e, f) refl; no_reset = rw (e, f, g) refl }
+wdt_store p reg word true false false e f g = record { owed = rw (e, f) refl; no_reset = rw (e, f, g) refl }
+
 gpio_access : (p : GpioRegisters) (r : Request) (reg : ℕ) (store : Option ℕ)
     → ServesAnswers p.owed (at_gpio p r reg store).down (at_gpio p r reg store).front.owed
 gpio_access p r reg None = no_answers p.owed
@@ -278,6 +314,11 @@ pwm_access : (p : PwmRegisters) (r : Request) (reg : ℕ) (store : Option ℕ)
     → ServesAnswers p.owed (at_pwm p r reg store).down (at_pwm p r reg store).front.owed
 pwm_access p r reg None = no_answers p.owed
 pwm_access p r reg (Some value) = pwm_store p reg value _ _ refl refl
+
+wdt_access : (p : WatchdogRegisters) (r : Request) (reg : ℕ) (store : Option ℕ)
+    → ServesAnswers p.owed (at_watchdog p r reg store).down (at_watchdog p r reg store).front.owed
+wdt_access p r reg None = no_answers p.owed
+wdt_access p r reg (Some value) = wdt_store p reg value _ _ _ refl refl refl
 
 -- what an access to a unit's registers does to the answers that the front of gpio waits for
 gpio_reached : (f : Fronts) (r : Request) (unit : ChipUnit) (reg : ℕ) → ServesAnswers f.gpio.owed (get_or (only_to unit (unit_down f r unit reg)) (link_place Gpio) None) (fronts_after f r unit reg).gpio.owed
@@ -289,13 +330,13 @@ gpio_reached f r Pwm reg = no_answers f.gpio.owed
 gpio_reached f r Slink reg = no_answers f.gpio.owed
 gpio_reached f r Wdt reg = no_answers f.gpio.owed
 
--- what a cycle does to the fronts of gpio and pwm, after the arrivals
+-- what a cycle does to the answers that the front of gpio waits for, after the arrivals
 pub serves_gpio : (s : HubState) (seat : Seat) (now : ℕ) (ups : List (Option Up))
-    → ServesAnswers (arrived s ups).fronts.gpio.owed (get_or (hub_cycle s seat now ups).downs (link_place Gpio) None) (hub_cycle s seat now ups).hub.fronts.gpio.owed
-serves_gpio = cycle_fronts (λ old new downs. ServesAnswers old.gpio.owed (get_or downs (link_place Gpio) None) new.gpio.owed) (record {
+    → CycleServes one_more ServesAnswers (fires ups) (arrived s ups).fronts.gpio.owed (get_or (hub_cycle s seat now ups).downs (link_place Gpio) None) (hub_cycle s seat now ups).hub.fronts.gpio.owed
+serves_gpio = cycle_serves one_more ServesAnswers (λ (f : Fronts). f.gpio.owed) (link_place Gpio) (record {
   no_front = λ f. no_answers f.gpio.owed;
   device = λ s r unit reg. gpio_reached s.fronts r unit reg;
-})
+}) (λ f. refl) refl
 
 -- what an access to a unit's registers does to the answers that the front of pwm waits for
 pwm_reached : (f : Fronts) (r : Request) (unit : ChipUnit) (reg : ℕ) → ServesAnswers f.pwm.owed (get_or (only_to unit (unit_down f r unit reg)) (link_place Pwm) None) (fronts_after f r unit reg).pwm.owed
@@ -307,12 +348,31 @@ pwm_reached f r Pwm reg = pwm_access f.pwm r reg r.store
 pwm_reached f r Slink reg = no_answers f.pwm.owed
 pwm_reached f r Wdt reg = no_answers f.pwm.owed
 
+-- what a cycle does to the answers that the front of pwm waits for, after the arrivals
 pub serves_pwm : (s : HubState) (seat : Seat) (now : ℕ) (ups : List (Option Up))
-    → ServesAnswers (arrived s ups).fronts.pwm.owed (get_or (hub_cycle s seat now ups).downs (link_place Pwm) None) (hub_cycle s seat now ups).hub.fronts.pwm.owed
-serves_pwm = cycle_fronts (λ old new downs. ServesAnswers old.pwm.owed (get_or downs (link_place Pwm) None) new.pwm.owed) (record {
+    → CycleServes one_more ServesAnswers (fires ups) (arrived s ups).fronts.pwm.owed (get_or (hub_cycle s seat now ups).downs (link_place Pwm) None) (hub_cycle s seat now ups).hub.fronts.pwm.owed
+serves_pwm = cycle_serves one_more ServesAnswers (λ (f : Fronts). f.pwm.owed) (link_place Pwm) (record {
   no_front = λ f. no_answers f.pwm.owed;
   device = λ s r unit reg. pwm_reached s.fronts r unit reg;
-})
+}) (λ f. refl) refl
+
+-- what an access to a unit's registers does to the answers that the front of the watchdog waits for
+wdt_reached : (f : Fronts) (r : Request) (unit : ChipUnit) (reg : ℕ) → ServesAnswers f.wdt.owed (get_or (only_to unit (unit_down f r unit reg)) (link_place Wdt) None) (fronts_after f r unit reg).wdt.owed
+wdt_reached f r Uart0 reg = no_answers f.wdt.owed
+wdt_reached f r Uart1 reg = no_answers f.wdt.owed
+wdt_reached f r Spi reg = no_answers f.wdt.owed
+wdt_reached f r Gpio reg = no_answers f.wdt.owed
+wdt_reached f r Pwm reg = no_answers f.wdt.owed
+wdt_reached f r Slink reg = no_answers f.wdt.owed
+wdt_reached f r Wdt reg = wdt_access f.wdt r reg r.store
+
+-- what a cycle does to the answers that the front of the watchdog waits for, after the arrivals
+pub serves_wdt : (s : HubState) (seat : Seat) (now : ℕ) (ups : List (Option Up))
+    → CycleServes one_more ServesAnswers (fires ups) (arrived s ups).fronts.wdt.owed (get_or (hub_cycle s seat now ups).downs (link_place Wdt) None) (hub_cycle s seat now ups).hub.fronts.wdt.owed
+serves_wdt = cycle_serves one_more ServesAnswers (λ (f : Fronts). f.wdt.owed) (link_place Wdt) (record {
+  no_front = λ f. no_answers f.wdt.owed;
+  device = λ s r unit reg. wdt_reached s.fronts r unit reg;
+}) (λ f. refl) refl
 
 -- what an arrival does to the answers that a front waits for
 pub record HearsAnswers (before : ℕ) (up : Option Up) (after : ℕ) : Type 0 where
@@ -357,3 +417,12 @@ pwm_hears p (Some up) = owed_by p.owed (pwm_arrived p up).owed up (eqb p.owed 0)
     pwm_open : eqb p.owed 0 ≡ true → (d : Bool) → up.done ≡ d → (pwm_arrived p up).owed ≡ p.owed
     pwm_open o true e = rw (e, o) refl
     pwm_open o false e = rw e refl
+
+pub wdt_hears : (p : WatchdogRegisters) (up : Option Up) → HearsAnswers p.owed up (arrived_at_watchdog p up).owed
+wdt_hears p None = record { still = λ z. z; answers = λ z. omega arith }
+wdt_hears p (Some up) = owed_by p.owed (watchdog_arrived p up).owed up (eqb p.owed 0) up.done refl refl
+    (λ o. wdt_open o _ refl) (λ o d. rw (o, d) refl) (λ o d. rw d refl)
+  where
+    wdt_open : eqb p.owed 0 ≡ true → (d : Bool) → up.done ≡ d → (watchdog_arrived p up).owed ≡ p.owed
+    wdt_open o true e = rw (e, o) refl
+    wdt_open o false e = rw e refl

@@ -4,6 +4,7 @@ use Rattle.chip_base.specs.Bits.{bit_if}
 use Rattle.chip_base.specs.UnitTable.{unit_numbered, unit_row}
 use Rattle.chip_base.specs.declared.chip_unit.ChipUnit.{ChipUnit}
 use Rattle.chip_base.specs.declared.chip_unit.ChipUnit.TheVariants.{Uart0, Uart1, Spi, Gpio, Pwm, Slink, Wdt}
+use Rattle.chip_base.specs.declared.chip_unit.HubPart.TheVariants as part
 use Rattle.chip_base.specs.declared.message.Down.{Down}
 use Rattle.core_pair.specs.Clint.{clint_word, clint_stored}
 use Rattle.core_pair.specs.Mailbox.{mailbox_word, mailbox_stored}
@@ -43,16 +44,16 @@ in_memory s r None = unchanged s (load_of s.memory r.addr r.width)
 in_memory s r (Some value) = memory_stored s (store_of s.memory r.addr r.width value)
 
 abbrev pub in_clint : HubState → Request → Option ℕ → Accessed
-in_clint s r None = unchanged s (Ok (part_of_word r (clint_word s.clint (offset_in 0x10000 r))))
-in_clint s r (Some value) = done (record s { clint = clint_stored s.clint (offset_in 0x10000 r) value })
+in_clint s r None = unchanged s (Ok (part_of_word r (clint_word s.clint (offset_in part.Clint r))))
+in_clint s r (Some value) = done (record s { clint = clint_stored s.clint (offset_in part.Clint r) value })
 
 abbrev pub in_dma : HubState → Request → Option ℕ → Accessed
-in_dma s r None = unchanged s (Ok (part_of_word r (dma_word s.dma (offset_in 0x100 r))))
-in_dma s r (Some value) = done (record s { dma = dma_stored s.dma (offset_in 0x100 r) value })
+in_dma s r None = unchanged s (Ok (part_of_word r (dma_word s.dma (offset_in part.Dma r))))
+in_dma s r (Some value) = done (record s { dma = dma_stored s.dma (offset_in part.Dma r) value })
 
 abbrev pub in_mailbox : HubState → Request → Option ℕ → Accessed
-in_mailbox s r None = unchanged s (Ok (part_of_word r (mailbox_word s.mailbox (offset_in 0x100 r))))
-in_mailbox s r (Some value) = done (record s { mailbox = mailbox_stored s.mailbox (offset_in 0x100 r) value })
+in_mailbox s r None = unchanged s (Ok (part_of_word r (mailbox_word s.mailbox (offset_in part.Mailbox r))))
+in_mailbox s r (Some value) = done (record s { mailbox = mailbox_stored s.mailbox (offset_in part.Mailbox r) value })
 
 -- a unit's bit in OPEN, where its front is open
 abbrev pub open_bit : ChipUnit → Bool → ℕ
@@ -62,7 +63,7 @@ open_bit unit is_open = bit_if (unit_row unit).number is_open
 abbrev pub open_word : Fronts → ℕ
 open_word f =
     open_bit Uart0 (is_open_at f.uart0.owed) + open_bit Uart1 (is_open_at f.uart1.owed) + open_bit Spi (is_open_at f.spi.owed) + open_bit Gpio (is_open_at f.gpio.owed)
-    + open_bit Pwm (is_open_at f.pwm.owed) + open_bit Slink true + open_bit Wdt true
+    + open_bit Pwm (is_open_at f.pwm.owed) + open_bit Slink true + open_bit Wdt (is_open_at f.wdt.owed)
 
 -- the registers that tell the settings: CLK, IMEM, DMEM and OPEN
 abbrev pub sysinfo_word : HubState → ℕ → ℕ
@@ -74,7 +75,7 @@ sysinfo_word s offset =
 
 -- a store to them is ignored
 abbrev pub in_sysinfo : HubState → Request → Option ℕ → Accessed
-in_sysinfo s r None = unchanged s (Ok (part_of_word r (sysinfo_word s (offset_in 0x100 r))))
+in_sysinfo s r None = unchanged s (Ok (part_of_word r (sysinfo_word s (offset_in part.Sysinfo r))))
 in_sysinfo s r (Some value) = done s
 
 -- the registers of a unit

@@ -10,6 +10,9 @@ use Rattle.chip_hub.specs.State.{HubState, HubStep}
 
 pub record SeatKept : Type 0 where
   pub boot : Boot
+  -- what the monitor is made with, as in the definition
+  pub room : ℕ
+  pub ctrl : ℕ
   -- the monitor, and what it asks
   pub monitor : MonitorState
   pub asks : MonitorOut
@@ -23,6 +26,8 @@ pub record HubKept : Type 0 where
 -- the replies aren't kept, but the monitor that they lead to
 pub record SeatStands (kept : SeatKept) (seat : Seat) : Type 0 where
   pub boot : kept.boot ≡ seat.boot
+  pub room : kept.room ≡ seat.room
+  pub ctrl : kept.ctrl ≡ seat.ctrl
   pub monitor : Stands kept.monitor seat.room seat.ctrl (Some seat.replies)
   pub asks : kept.asks ≡ asked seat
   pub handed : kept.handed ≡ seat.handed

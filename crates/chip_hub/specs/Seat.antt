@@ -1,5 +1,5 @@
 -- Definition: core 0's seat: how core 0 begins, and the boot monitor, which acts in core 0's place until it hands over.
-use Rattle.std.specs.Prelude.{◌==◌, ℕ, ◌-◌, ◌&&◌, Bool, true, false, List, ◌∷◌, Option, Some, None, Result, Ok, Err, if◌then◌else◌}
+use Rattle.std.specs.Prelude.{◌==◌, ℕ, ◌-◌, ◌&&◌, Bool, true, false, List, [], ◌∷◌, Option, Some, None, Result, Ok, Err, if◌then◌else◌}
 use Rattle.boot_monitor.specs.Actions.{next}
 use Rattle.boot_monitor.specs.declared.exchange.MonitorOut.{MonitorOut}
 use Rattle.boot_monitor.specs.declared.exchange.MonitorOut.TheVariants.{Bus, HandOver}
@@ -34,6 +34,14 @@ is_hand_over (Bus request) = false
 -- the monitor's request, where it stands: it wants the bus
 abbrev pub standing : Seat → Option Request
 standing seat = if seat.pause == 0 then request_in (asked seat) else None
+
+-- a seat in which the monitor begins, in the cycle that comes
+abbrev pub seat_begun : Boot → ℕ → ℕ → Seat
+seat_begun boot room ctrl = record { boot = boot; room = room; ctrl = ctrl; handed = None; replies = []; pause = 1 }
+
+-- after a reset: the monitor begins anew
+abbrev pub seat_reset : Seat → Seat
+seat_reset seat = seat_begun seat.boot seat.room seat.ctrl
 
 -- in this turn the monitor acts, and hands over
 abbrev pub hands_over : Seat → Bool

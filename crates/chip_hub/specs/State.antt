@@ -10,6 +10,7 @@ use Rattle.dma_unit.specs.DmaRegisters.{DmaRegisters}
 use Rattle.unit_fronts.specs.GpioFront.{GpioRegisters}
 use Rattle.unit_fronts.specs.SerialRegisters.{SerialRegisters}
 use Rattle.unit_fronts.specs.PwmFront.{PwmRegisters}
+use Rattle.unit_fronts.specs.WdtFront.{WatchdogRegisters}
 use Rattle.chip_hub.specs.Seat.{Seat}
 
 -- the fronts of the units that are built
@@ -19,6 +20,7 @@ pub record Fronts : Type 0 where
   pub spi : SerialRegisters
   pub gpio : GpioRegisters
   pub pwm : PwmRegisters
+  pub wdt : WatchdogRegisters
 
 pub record HubState : Type 0 where
   -- the clock in hertz, as the settings give it

@@ -11,22 +11,19 @@ ghost use Rattle.chip_hub.specs.Units.{messages_in, only_to, silent};
 
 use crate::complex::CoreComplex;
 use crate::parts::{offset_in, part_of_word};
-use crate::units::{AtFront, access_gpio, access_pwm, access_spi, access_uart};
+use crate::units::{AtFront, access_gpio, access_pwm, access_spi, access_uart, access_watchdog};
 use chip_base::bits::bit_if;
-use chip_base::{ChipUnit, Down};
+use chip_base::{ChipUnit, Down, HubPart};
 use soc_bus::{BusFault, Region, Request, admit};
-
-/// The size in bytes of the CLINT's part of the map.
-const CLINT_SIZE: u32 = 0x1_0000;
-
-/// The size in bytes of the part of the map that each of SYSINFO, the mailbox and the DMA has.
-const BLOCK_SIZE: u32 = 0x100;
 
 /// No message for any of the seven units.
 pub(crate) const SILENT: [Option<Down>; 7] = [None; 7];
 
+/// A Reset for each of them.
+pub(crate) const RESETS: [Option<Down>; 7] = [Some(Down::Reset); 7];
+
 /// What an access gives its master, and the messages that go down to the units.
-#[derive(Clone, Copy, Debug)]
+#[derive(Clone, Copy)]
 pub(crate) struct Access {
     pub(crate) answer: Result<u32, BusFault>,
     pub(crate) downs: [Option<Down>; 7],
@@ -53,7 +50,7 @@ const fn done() -> Access
 }
 
 /// An access that is refused.
-const fn refused(fault: BusFault) -> Access
+const fn faulted(fault: BusFault) -> Access
     ensures { result ≡ record { answer = Err fault; downs = silent } }
 {
     Access {
@@ -94,17 +91,17 @@ impl CoreComplex {
             },
             Some(value) => match self.memory.store(request.addr, request.width, value) {
                 Ok(()) => done(),
-                Err(fault) => refused(fault),
+                Err(fault) => faulted(fault),
             },
         }
     }
 
     fn access_clint(&mut self, request: &Request) -> Access
-        requires { part_has part.Clint (offset_in 0x10000 request.now) ≡ true }
+        requires { part_has part.Clint (offset_in part.Clint request.now) ≡ true }
         ensures step { record { hub = self.new; answer = result.answer; downs = result.downs } ≡ in_clint self.old request.now request.now.store }
         ensures dma { self.new.dma ≡ self.old.dma }
     {
-        let offset = offset_in(CLINT_SIZE, request);
+        let offset = offset_in(HubPart::Clint, request);
         match request.store {
             None => gives(part_of_word(request, self.clint.load(offset))),
             Some(value) => {
@@ -115,11 +112,11 @@ impl CoreComplex {
     }
 
     fn access_mailbox(&mut self, request: &Request) -> Access
-        requires { part_has part.Mailbox (offset_in 0x100 request.now) ≡ true }
+        requires { part_has part.Mailbox (offset_in part.Mailbox request.now) ≡ true }
         ensures step { record { hub = self.new; answer = result.answer; downs = result.downs } ≡ in_mailbox self.old request.now request.now.store }
         ensures dma { self.new.dma ≡ self.old.dma }
     {
-        let offset = offset_in(BLOCK_SIZE, request);
+        let offset = offset_in(HubPart::Mailbox, request);
         match request.store {
             None => gives(part_of_word(request, self.mailbox.load(offset))),
             Some(value) => {
@@ -130,11 +127,11 @@ impl CoreComplex {
     }
 
     fn access_dma(&mut self, request: &Request) -> Access
-        requires { part_has part.Dma (offset_in 0x100 request.now) ≡ true }
+        requires { part_has part.Dma (offset_in part.Dma request.now) ≡ true }
         ensures step { record { hub = self.new; answer = result.answer; downs = result.downs } ≡ in_dma self.old request.now request.now.store }
         ensures dma { is_busy self.old.dma.state ≡ true → self.new.dma ≡ self.old.dma }
     {
-        let reg = offset_in(BLOCK_SIZE, request) as u8;
+        let reg = offset_in(HubPart::Dma, request) as u8;
         match request.store {
             None => gives(part_of_word(request, self.dma.load(reg))),
             Some(value) => {
@@ -154,7 +151,7 @@ impl CoreComplex {
             + open_bit(ChipUnit::Gpio, self.gpio.is_open())
             + open_bit(ChipUnit::Pwm, self.pwm.is_open())
             + open_bit(ChipUnit::Slink, true)
-            + open_bit(ChipUnit::Wdt, true)
+            + open_bit(ChipUnit::Wdt, self.wdt.is_open())
     }
 
     /// The word of a register that tells the settings.
@@ -174,7 +171,10 @@ impl CoreComplex {
         ensures dma { self.new.dma ≡ self.old.dma }
     {
         match request.store {
-            None => gives(part_of_word(request, self.sysinfo(offset_in(BLOCK_SIZE, request)))),
+            None => gives(part_of_word(
+                request,
+                self.sysinfo(offset_in(HubPart::Sysinfo, request)),
+            )),
             Some(_) => done(),
         }
     }
@@ -190,8 +190,8 @@ impl CoreComplex {
             ChipUnit::Spi => at_unit(unit, access_spi(&mut self.spi, request, reg)),
             ChipUnit::Gpio => at_unit(unit, access_gpio(&mut self.gpio, request, reg)),
             ChipUnit::Pwm => at_unit(unit, access_pwm(&mut self.pwm, request, reg)),
-            ChipUnit::Slink => refused(BusFault::Unmapped),
-            ChipUnit::Wdt => refused(BusFault::Unmapped),
+            ChipUnit::Slink => faulted(BusFault::Unmapped),
+            ChipUnit::Wdt => at_unit(unit, access_watchdog(&mut self.wdt, request, reg)),
         }
     }
 
@@ -202,7 +202,7 @@ impl CoreComplex {
     {
         match ChipUnit::numbered(number) {
             Some(unit) => self.access_device(request, unit, reg),
-            None => refused(BusFault::Unmapped),
+            None => faulted(BusFault::Unmapped),
         }
     }
 
@@ -231,7 +231,7 @@ impl CoreComplex {
     {
         match admit(request, self.memory.imem_size(), self.memory.dmem_size()) {
             Ok(region) => self.access_region(request, region),
-            Err(fault) => refused(fault),
+            Err(fault) => faulted(fault),
         }
     }
 }

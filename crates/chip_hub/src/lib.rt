@@ -14,6 +14,3 @@ mod views;
 
 pub use hub::Hub;
 pub use start::fits;
-
-#[cfg(test)]
-mod tests;

@@ -2,6 +2,7 @@
 ghost use Rattle.std.specs.Prelude.{◌≡◌, ◌+◌, ◌*◌, ◌/◌, ◌<◌, ◌≤◌, ◌^◌, length};
 ghost use Rattle.chip_hub.specs.Parts.{offset_in, part_of_word};
 
+use chip_base::HubPart;
 use soc_bus::{Request, Width};
 
 /// The bytes of a register's word that a load asks for, with zeros above.
@@ -16,10 +17,9 @@ pub(crate) fn part_of_word(request: &Request, word: u32) -> u32
     }
 }
 
-/// The offset of a register in a part of the map of this size in bytes.
-pub(crate) fn offset_in(size: u32, request: &Request) -> u32
-    requires { 0 < size }
-    ensures { result ≡ offset_in size request.now }
+/// The offset of an access's register in a part of the hub.
+pub(crate) fn offset_in(part: HubPart, request: &Request) -> u32
+    ensures { result ≡ offset_in part request.now }
 {
-    4 * (request.addr / 4) % size
+    4 * (request.addr / 4) % part.size()
 }

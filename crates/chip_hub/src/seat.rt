@@ -3,9 +3,10 @@ ghost use Rattle.std.specs.Prelude.{◌≡◌, IfSome, false};
 ghost use Rattle.boot_monitor.specs.declared.exchange.MonitorOut.TheVariants.{Bus};
 ghost use Rattle.chip_base.specs.Settings.{values_of};
 ghost use Rattle.chip_hub.specs.Kept.{SeatStands};
-ghost use Rattle.chip_hub.specs.Seat.{Seat as SeatState, hands_over, is_hand_over, seat_answered, seat_turned, standing};
+ghost use Rattle.chip_hub.specs.Seat.{Seat as SeatState, hands_over, is_hand_over, seat_answered, seat_begun, seat_reset, seat_turned, standing};
 ghost use Rattle.chip_hub.specs.Start.{seat_start};
 ghost use Rattle.chip_hub.specs.Views.{boot_view};
+ghost use Rattle.soc_bus.specs.Memory.{IsSize};
 
 use boot_monitor::{Monitor, MonitorIn, MonitorOut};
 use chip_base::{Boot, BootView, Cycle, Setup};
@@ -19,6 +20,9 @@ const PAUSE: u8 = 8;
 #[derive(Drop)]
 pub(crate) struct Seat {
     boot: Boot,
+    /// What the monitor is made with: the size of IMEM in bytes, and the word that it stores to UART0's CTRL.
+    room: u32,
+    ctrl: u32,
     monitor: Monitor,
     /// What the monitor asks.
     asks: MonitorOut,
@@ -34,14 +38,15 @@ impl Model for Seat {
     ghost use Rattle.boot_monitor.specs.declared.exchange.MonitorIn.TheVariants.{Word};
     ghost use Rattle.boot_monitor.specs.declared.exchange.MonitorOut.TheVariants.{Bus};
     ghost use Rattle.chip_hub.specs.Kept.{SeatKept};
+    ghost use Rattle.soc_bus.specs.Memory.{IsSize};
     ghost use Rattle.soc_bus.specs.declared.access.Request.{Request};
 
     ghost Value = { SeatKept };
 
-    ghost view = { λ s. record { boot = s.boot; monitor = s.monitor; asks = s.asks; handed = s.handed; pause = s.pause } };
+    ghost view = { λ s. record { boot = s.boot; room = s.room; ctrl = s.ctrl; monitor = s.monitor; asks = s.asks; handed = s.handed; pause = s.pause } };
 
-    // a word is due wherever it asks for one
-    ghost invariant = { λ s. (request : Request) (word : ℕ) → s.asks ≡ Bus request → IsDue s.monitor (Word word) };
+    // a word is due wherever the monitor asks for one
+    ghost invariant = { λ s. IsSize s.room × ((request : Request) (word : ℕ) → s.asks ≡ Bus request → IsDue s.monitor (Word word)) };
 }
 
 impl Seat {
@@ -50,15 +55,40 @@ impl Seat {
         ensures { SeatStands result (seat_start (values_of setup.now) boot) }
     {
         let ctrl = 1 + u32::from(setup.prescaler) * 8 + u32::from(setup.baud) * 64;
-        let mut monitor = Monitor::new(setup.imem, ctrl);
+        Seat::begun(boot, setup.imem, ctrl)
+    }
+
+    /// The seat of a chip whose IMEM has `room` bytes, with a monitor that acts in the turn that comes. `ctrl` is the word that it stores
+    /// to UART0's CTRL.
+    fn begun(boot: Boot, room: u32, ctrl: u32) -> Seat
+        requires { IsSize room }
+        ensures { SeatStands result (seat_begun boot room ctrl) }
+    {
+        let mut monitor = Monitor::new(room, ctrl);
         let asks = monitor.act(MonitorIn::Start);
         Seat {
             boot,
+            room,
+            ctrl,
             monitor,
             asks,
             handed: None,
             pause: 1,
         }
+    }
+
+    /// The monitor begins anew, in the turn that comes.
+    pub(crate) fn reset(&mut self)
+        ensures { (seat : SeatState) → SeatStands self.old seat → SeatStands self.new (seat_reset seat) }
+    {
+        *self = Seat::begun(self.boot, self.room, self.ctrl);
+    }
+
+    /// How core 0 begins.
+    pub(crate) fn boot(&self) -> Boot
+        ensures { result ≡ self.now.boot }
+    {
+        self.boot
     }
 
     /// Whether the monitor hands over in the turn that comes.

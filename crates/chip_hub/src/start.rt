@@ -1,8 +1,8 @@
-//! The hub at power-on.
+//! The hub at power-on, and after a reset.
 ghost use Rattle.std.specs.Prelude.{◌≡◌, ◌≤◌, ◌<◌, ◌^◌, length, true, IfOk};
 ghost use Rattle.chip_base.specs.Settings.{values_of};
 ghost use Rattle.chip_hub.specs.Kept.{SeatStands};
-ghost use Rattle.chip_hub.specs.Start.{first_bytes, first_core, fits_in, hub_start, seat_start};
+ghost use Rattle.chip_hub.specs.Start.{first_bytes, first_core, fits_in, hub_reset, hub_start, seat_start};
 
 use crate::complex::CoreComplex;
 use crate::hub::Hub;
@@ -13,7 +13,7 @@ use dma_unit::Dma;
 use image_tool::check;
 use soc_bus::{Arbiter, Memory};
 use std::alloc::Global;
-use unit_fronts::{GpioFront, PwmFront, SpiFront, UartFront};
+use unit_fronts::{GpioFront, PwmFront, SpiFront, UartFront, WdtFront};
 
 /// The bytes of an image's header.
 const HEADER: usize = 12;
@@ -45,7 +45,7 @@ fn first_bytes(boot: Boot, image: &[u8], room: u32) -> &[u8]
     }
 }
 
-/// Core 0 at power-on, or held for the monitor.
+/// Core 0 after a reset: it begins at once, or is held for the monitor.
 fn first_core(boot: Boot) -> Core
     ensures { result ≡ first_core boot }
 {
@@ -79,7 +79,20 @@ impl CoreComplex {
             spi: SpiFront::new(),
             gpio: GpioFront::new(),
             pwm: PwmFront::new(),
+            wdt: WdtFront::new(),
         })
+    }
+
+    /// All but the clock, the memories and the fronts takes its reset state.
+    pub(crate) fn reset(&mut self, boot: Boot)
+        ensures { self.new ≡ hub_reset boot self.old.clock self.old.memory self.old.fronts }
+    {
+        self.core0 = first_core(boot);
+        self.core1 = Core::new(1);
+        self.arbiter = Arbiter::new();
+        self.dma = Dma::new();
+        self.clint = Clint::new();
+        self.mailbox = Mailbox::new();
     }
 }
 

@@ -1,7 +1,7 @@
 //! What the core complex does in the steps of a cycle.
 ghost use Rattle.std.specs.Prelude.{◌≡◌, ◌<◌, ◌≤◌, ◌+◌, ◌^◌, ℕ};
 ghost use Rattle.chip_hub.specs.Access.{accessed};
-ghost use Rattle.chip_hub.specs.Cycle.{answered0, arrived, served1, served2, timed, turn1};
+ghost use Rattle.chip_hub.specs.Cycle.{answered_core0, arrived, closed, served_core1, served_dma, timed, turn1};
 ghost use Rattle.core_pair.specs.Core.{wanted_in};
 ghost use Rattle.core_pair.specs.Turn.{turned};
 ghost use Rattle.dma_unit.specs.DmaRegisters.{dma_wanted};
@@ -36,6 +36,21 @@ impl CoreComplex {
         if let Some(up) = ups[ChipUnit::Pwm.place()] {
             self.pwm.arrive(up);
         }
+        if let Some(up) = ups[ChipUnit::Wdt.place()] {
+            self.wdt.arrive(up);
+        }
+    }
+
+    /// Every front closes.
+    pub(crate) fn close(&mut self)
+        ensures { self.new ≡ record self.old { fronts = closed self.old.fronts } }
+    {
+        self.uart0.close();
+        self.uart1.close();
+        self.spi.close();
+        self.gpio.close();
+        self.pwm.close();
+        self.wdt.close();
     }
 
     /// mtime adds one.
@@ -87,8 +102,8 @@ impl CoreComplex {
         match self.core1.phase() {
             Phase::Parked => {
                 if self.clint.starts() {
-                    let pc = self.mailbox.load(0);
-                    let sp = self.mailbox.load(4);
+                    let pc = self.mailbox.pc();
+                    let sp = self.mailbox.sp();
                     self.core1.start(pc, sp);
                 }
             }
@@ -102,7 +117,7 @@ impl CoreComplex {
     /// Core 0 is granted the request that it waits for.
     pub(crate) fn serve0(&mut self, request: &Request) -> [Option<Down>; 7]
         requires { self.old.core0.phase ≡ Phase.Want request.now }
-        ensures step { (seat : Seat) → record { hub = self.new; seat = seat; downs = result } ≡ answered0 (accessed self.old request.now) seat (Phase.Want request.now) }
+        ensures step { (seat : Seat) → record { hub = self.new; seat = seat; downs = result } ≡ answered_core0 (accessed self.old request.now) seat (Phase.Want request.now) }
         ensures messages { messages_in result ≤ 1 }
     {
         let access = self.access(request);
@@ -111,7 +126,7 @@ impl CoreComplex {
     }
 
     pub(crate) fn serve1(&mut self) -> [Option<Down>; 7]
-        ensures step { (seat : Seat) → record { hub = self.new; seat = seat; downs = result } ≡ served1 self.old seat (wanted_in self.old.core1.phase) }
+        ensures step { (seat : Seat) → record { hub = self.new; seat = seat; downs = result } ≡ served_core1 self.old seat (wanted_in self.old.core1.phase) }
         ensures messages { messages_in result ≤ 1 }
     {
         let Some(request) = self.core1.want() else {
@@ -123,7 +138,7 @@ impl CoreComplex {
     }
 
     pub(crate) fn serve2(&mut self) -> [Option<Down>; 7]
-        ensures step { (seat : Seat) → record { hub = self.new; seat = seat; downs = result } ≡ served2 self.old seat (dma_wanted self.old.dma) }
+        ensures step { (seat : Seat) → record { hub = self.new; seat = seat; downs = result } ≡ served_dma self.old seat (dma_wanted self.old.dma) }
         ensures messages { messages_in result ≤ 1 }
     {
         let Some(request) = self.dma.want() else {

@@ -1,18 +1,18 @@
 //! Accesses to the registers of the units, at their fronts.
 ghost use Rattle.std.specs.Prelude.{◌≡◌, ◌⊎◌, ℕ, true};
 ghost use Rattle.chip_base.specs.UnitTable.{unit_has};
-ghost use Rattle.chip_base.specs.declared.chip_unit.ChipUnit.TheVariants.{Uart0, Spi, Gpio, Pwm};
+ghost use Rattle.chip_base.specs.declared.chip_unit.ChipUnit.TheVariants.{Uart0, Spi, Gpio, Pwm, Wdt};
 ghost use Rattle.unit_fronts.specs.SpiFront.{spi_kind};
 ghost use Rattle.unit_fronts.specs.UartFront.{uart_kind};
-ghost use Rattle.chip_hub.specs.Units.{at_gpio, at_pwm, at_serial};
+ghost use Rattle.chip_hub.specs.Units.{at_gpio, at_pwm, at_serial, at_watchdog};
 
 use crate::parts::part_of_word;
 use chip_base::Down;
 use soc_bus::Request;
-use unit_fronts::{GpioFront, PwmFront, SpiFront, UartFront};
+use unit_fronts::{GpioFront, PwmFront, SpiFront, UartFront, WdtFront};
 
 /// What an access gives at a front: the word for its master, and the message for the unit.
-#[derive(Clone, Copy, Debug)]
+#[derive(Clone, Copy)]
 pub(crate) struct AtFront {
     pub(crate) word: u32,
     pub(crate) down: Option<Down>,
@@ -78,6 +78,24 @@ pub(crate) fn access_pwm(front: &mut PwmFront, request: &Request, reg: u8) -> At
     ensures front { front.new ≡ (at_pwm front.old request.now reg request.now.store).front }
     ensures word { result.word ≡ (at_pwm front.old request.now reg request.now.store).word }
     ensures down { result.down ≡ (at_pwm front.old request.now reg request.now.store).down }
+{
+    match request.store {
+        None => AtFront {
+            word: part_of_word(request, front.load(reg)),
+            down: None,
+        },
+        Some(value) => AtFront {
+            word: 0,
+            down: front.store(reg, value),
+        },
+    }
+}
+
+pub(crate) fn access_watchdog(front: &mut WdtFront, request: &Request, reg: u8) -> AtFront
+    requires { unit_has Wdt reg ≡ true }
+    ensures front { front.new ≡ (at_watchdog front.old request.now reg request.now.store).front }
+    ensures word { result.word ≡ (at_watchdog front.old request.now reg request.now.store).word }
+    ensures down { result.down ≡ (at_watchdog front.old request.now reg request.now.store).down }
 {
     match request.store {
         None => AtFront {

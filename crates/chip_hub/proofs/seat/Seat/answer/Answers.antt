@@ -7,7 +7,7 @@ use Rattle.chip_hub.proofs.seat.Seat.answer.Goals as goal
 pub act-self-inside-requires : goal.act-self-inside-requires
 act-self-inside-requires c =
     let asked = asks_for c.self.inside.asks (subst (λ (k : SeatKept). is_hand_over k.asks ≡ false) (sym c.self.view_is) c.requires) in
-    record { due = c.self.invariant asked.0 c.args.reply asked.1 }
+    record { due = c.self.invariant.1 asked.0 c.args.reply asked.1 }
 
 pub returns : goal.returns
 returns c seat h =

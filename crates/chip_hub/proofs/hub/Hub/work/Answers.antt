@@ -1,13 +1,13 @@
 use Rattle.std.proofs.Common.{ap, subst, sym, ◌∙◌}
-use Rattle.chip_hub.specs.Cycle.{hub_cycle, seat_after, timed, turn1}
+use Rattle.chip_hub.specs.Cycle.{hub_worked, seat_after, timed, turn1}
 use Rattle.chip_hub.specs.Kept.{HubKept, SeatStands, StepStands}
 use Rattle.chip_hub.specs.Seat.{Seat}
 use Rattle.chip_hub.proofs.Cycles.{cycle_stands}
-use Rattle.chip_hub.proofs.hub.Hub.cycle.Goals as goal
+use Rattle.chip_hub.proofs.hub.Hub.work.Goals as goal
 
 pub returns-clause-step : goal.returns-clause-step
 returns-clause-step c =
-    subst (λ (k : HubKept). (seat : Seat) → SeatStands k.seat seat → StepStands c.serve.new.self c.serve.result (hub_cycle k.hub seat c.args.now c.args.ups.now)) c.self.view_is
+    subst (λ (k : HubKept). (seat : Seat) → SeatStands k.seat seat → StepStands c.serve.new.self c.serve.result (hub_worked k.hub seat c.args.now c.args.ups.now)) c.self.view_is
     (λ seat h.
     let then_seat : Seat = seat_after seat c.args.now c.step_time.new.self.core0.phase in
     let stands : SeatStands c.turn0.new.self.seat then_seat = c.turn0.ensures.seat seat h in
