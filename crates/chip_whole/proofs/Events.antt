@@ -1,16 +1,22 @@
 -- The events of a cycle, and of all cycles.
-use Rattle.std.proofs.Common.{◌≡◌, ◌≤◌, ◌<◌, ℕ, suc, ◌⊎◌, inl, inr, Bool, true, false, eqb, ltb, length, List, [], ◌∷◌, ◌++◌, Option, None, Some, refl, subst, ◌∙◌, arith, append-nil, append_assoc}
+use Rattle.std.proofs.Common.{◌≡◌, ◌≤◌, ◌<◌, ℕ, suc, ◌⊎◌, inl, inr, Bool, true, false, eqb, ltb, length, List, [], ◌∷◌, ◌++◌, Option, None, Some, refl, subst, sym, ◌∙◌, arith, append-nil, append_assoc}
 use Rattle.std.specs.Prelude.{option_to_list}
 use Rattle.board_units.specs.GpioCycle.{gpio_cycle, outputs_after}
 use Rattle.board_units.specs.GpioState.{GpioState}
 use Rattle.board_units.specs.Messages.{change_event}
-use Rattle.board_units.specs.PwmCycle.{mask_of, pwm_cycle, set_in as pwm_set}
+use Rattle.board_units.specs.PwmCycle.{outputs_of, pwm_cycle, set_in as pwm_set}
 use Rattle.board_units.specs.PwmState.{PwmState}
+use Rattle.board_units.specs.WatchdogCycle.{watchdog_cycle}
+use Rattle.board_units.specs.WatchdogState.{WatchdogState}
+use Rattle.board_units.specs.WatchdogTime.{FiresOnce}
+use Rattle.board_units.proofs.Fires.{fires_once}
 use Rattle.chip_base.specs.declared.event.Event.{Event}
 use Rattle.chip_base.specs.declared.message.Down.{Down}
 use Rattle.chip_base.specs.declared.message.Down.TheVariants.{Reset, Set}
+use Rattle.chip_base.specs.declared.message.Up.{Up}
 use Rattle.chip_base.specs.Given.{Given}
-use Rattle.uart_lane.specs.Cycle.{appended, begun, ended, may_begin, received, sent, set_in, uart_cycle}
+use Rattle.chip_base.specs.Messages.{fire_in}
+use Rattle.uart_lane.specs.Cycle.{begun, frame_sent, may_begin, queued, received, sent, set_in, uart_cycle}
 use Rattle.uart_lane.specs.State.{UartState}
 use Rattle.chip_whole.specs.Chip.{events_of}
 use Rattle.chip_whole.specs.Order.{AreOrdered, AreOrderedBefore, ArePast, Precedes}
@@ -118,13 +124,13 @@ pub record TellsOfItself (s : UartState) (now : ℕ) (g : Given UartState) : Typ
   pub number : g.unit.number ≡ s.number
   pub event : ToldAt s.number now g.event
 
-ended_tells : (s : UartState) (now : ℕ) (fifo : List ℕ) → TellsOfItself s now (ended s now fifo)
-ended_tells s now [] = record { number = refl; event = tt }
-ended_tells s now (b ∷ rest) = record { number = refl; event = (refl, refl) }
+frame_sent_tells : (s : UartState) (now : ℕ) (fifo : List ℕ) → TellsOfItself s now (frame_sent s now fifo)
+frame_sent_tells s now [] = record { number = refl; event = tt }
+frame_sent_tells s now (b ∷ rest) = record { number = refl; event = (refl, refl) }
 
 sent_tells_by : (s : UartState) (now : ℕ) (a b : Bool) → eqb s.left 0 ≡ a → eqb s.left 1 ≡ b → TellsOfItself s now (sent s now)
 sent_tells_by s now true b p q = rw p record { number = refl; event = tt }
-sent_tells_by s now false true p q = rw (p, q) (ended_tells s now s.fifo)
+sent_tells_by s now false true p q = rw (p, q) (frame_sent_tells s now s.fifo)
 sent_tells_by s now false false p q = rw (p, q) record { number = refl; event = tt }
 
 sent_tells : (s : UartState) (now : ℕ) → TellsOfItself s now (sent s now)
@@ -147,13 +153,13 @@ same_number s t now e =
       event = subst (λ number. ToldAt number now (sent (begun t) now).event) same told.event;
     }
 
-appended_number : (s : UartState) (byte : ℕ) (b : Bool) → ltb (length s.fifo) 16 ≡ b → (appended s byte).number ≡ s.number
-appended_number s byte true e = rw e refl
-appended_number s byte false e = rw e refl
+queued_number : (s : UartState) (byte : ℕ) (b : Bool) → ltb (length s.fifo) 16 ≡ b → (queued s byte).number ≡ s.number
+queued_number s byte true e = rw e refl
+queued_number s byte false e = rw e refl
 
 set_number_by : (s : UartState) (reg word : ℕ) (a b : Bool) → eqb reg 0 ≡ a → eqb reg 4 ≡ b → (set_in s reg word).number ≡ s.number
 set_number_by s reg word true b p q = rw p refl
-set_number_by s reg word false true p q = rw (p, q) (appended_number s _ _ refl)
+set_number_by s reg word false true p q = rw (p, q) (queued_number s _ _ refl)
 set_number_by s reg word false false p q = rw (p, q) refl
 
 pub uart_tells : (s : UartState) (now : ℕ) (down : Option Down) → TellsOfItself s now (uart_cycle s now down)
@@ -162,7 +168,7 @@ uart_tells s now None = same_number s s now refl
 uart_tells s now (Some Reset) = record { number = refl; event = tt }
 uart_tells s now (Some (Set reg word)) = same_number s (set_in s reg word) now (set_number_by s reg word _ _ refl refl)
 
--- what the units of the pins and of pulse-width modulation tell
+-- what the units of the pins, of pulse-width modulation and of the watchdog tell
 
 change_tells : (now unit before after : ℕ) (same : Bool) → eqb before after ≡ same → ToldAt unit now (change_event now unit before after)
 change_tells now unit before after true e = rw e tt
@@ -174,6 +180,24 @@ gpio_tells s now down = change_tells now 4 s.outputs (outputs_after s.outputs do
 
 pub pwm_tells : (s : PwmState) (now : ℕ) (down : Option Down) → ToldAt 5 now (pwm_cycle s now down).event
 unfolding pwm_cycle
-pwm_tells s now None = change_tells now 5 s.mask (mask_of s) _ refl
+pwm_tells s now None = change_tells now 5 s.mask (outputs_of s) _ refl
 pwm_tells s now (Some Reset) = change_tells now 5 s.mask 0 _ refl
-pwm_tells s now (Some (Set reg word)) = change_tells now 5 (pwm_set s reg word).mask (mask_of (pwm_set s reg word)) _ refl
+pwm_tells s now (Some (Set reg word)) = change_tells now 5 (pwm_set s reg word).mask (outputs_of (pwm_set s reg word)) _ refl
+
+fire_or_not : (up : Option Up) → (fire_in up ≡ 0) ⊎ (fire_in up ≡ 1)
+fire_or_not None = inl refl
+fire_or_not (Some up) = by_fire up.fire refl
+  where
+    by_fire : (b : Bool) → up.fire ≡ b → (fire_in (Some up) ≡ 0) ⊎ (fire_in (Some up) ≡ 1)
+    by_fire true e = inr (rw e refl)
+    by_fire false e = inl (rw e refl)
+
+pub wdt_tells : (s : WatchdogState) (now : ℕ) (down : Option Down) → ToldAt 7 now (watchdog_cycle s now down).event
+wdt_tells s now down = by_fire (fire_or_not (watchdog_cycle s now down).up)
+  where
+    once : FiresOnce now s down (watchdog_cycle s now down).unit (watchdog_cycle s now down).up (watchdog_cycle s now down).event
+    once = fires_once now s down _ _ _ refl refl refl
+
+    by_fire : (fire_in (watchdog_cycle s now down).up ≡ 0) ⊎ (fire_in (watchdog_cycle s now down).up ≡ 1) → ToldAt 7 now (watchdog_cycle s now down).event
+    by_fire (inl none) = subst (ToldAt 7 now) (sym (once.untold none)) tt
+    by_fire (inr one) = subst (ToldAt 7 now) (sym (once.told one)) (refl, refl)

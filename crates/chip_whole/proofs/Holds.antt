@@ -13,11 +13,12 @@ use Rattle.chip_base.specs.declared.script.Script.{Script}
 use Rattle.chip_base.specs.declared.setup.Setup.{Setup}
 use Rattle.board_units.specs.GpioCycle.{gpio_cycle}
 use Rattle.board_units.specs.PwmCycle.{pwm_cycle}
+use Rattle.board_units.specs.WatchdogCycle.{watchdog_cycle}
 use Rattle.chip_hub.specs.Start.{hub_start}
-use Rattle.chip_hub.proofs.Fronts.{gpio_hears, pwm_hears, serves_gpio, serves_pwm, serves_spi, serves_uart0, serves_uart1}
+use Rattle.chip_hub.proofs.Fronts.{gpio_hears, pwm_hears, serves_gpio, serves_pwm, serves_spi, serves_uart0, serves_uart1, serves_wdt, wdt_hears}
 use Rattle.spi_flash.specs.SpiCycle.{SpiState, spi_cycle}
 use Rattle.spi_flash.proofs.SpiCounts.{counts_queue, keeps_entries}
-use Rattle.soc_words.specs.Link.{link_first}
+use Rattle.soc_words.specs.Link.{count_on, link_first}
 use Rattle.uart_lane.specs.Counts.{bytes_out}
 use Rattle.uart_lane.specs.Cycle.{uart_cycle}
 use Rattle.uart_lane.specs.State.{UartState}
@@ -25,31 +26,32 @@ use Rattle.uart_lane.proofs.Counts.{keeps_count}
 use Rattle.uart_lane.proofs.Order.{keeps_order}
 use Rattle.unit_fronts.specs.SerialRegisters.{SerialRegisters}
 use Rattle.chip_whole.specs.Chip.{Board, ChipState, after, arriving, delay_of, start, tick, told_by_units}
-use Rattle.chip_whole.specs.Credits.{CreditsHold, HasSixteen, LosesNone, ServesUnit, SpiLosesNone, UartLosesNone, count_on, queued_in, waiting_in}
+use Rattle.chip_whole.specs.Credits.{CreditsHold, HasSixteen, LosesNone, ServesUnit, SpiLosesNone, UartLosesNone, queued_in, waiting_in}
 use Rattle.chip_whole.specs.Joined.{Joined, event_of}
 use Rattle.chip_whole.specs.Order.{AreOrderedBefore}
-use Rattle.chip_whole.specs.Sent.{SendsInOrder, bytes_down, resets_down, sent_down, told_by}
-use Rattle.chip_whole.proofs.Answers.{gpio_answers, pwm_answers}
-use Rattle.chip_whole.proofs.Events.{AllTold, EndBefore, ToldAt, are_past, gpio_tells, pwm_tells, told_all, uart_tells}
+use Rattle.chip_whole.specs.Sent.{SendsInOrder, bytes_down, fates, sent_down, told_by}
+use Rattle.chip_whole.proofs.Answers.{gpio_answers, pwm_answers, wdt_answers}
+use Rattle.chip_whole.proofs.Events.{AllTold, EndBefore, ToldAt, are_past, gpio_tells, pwm_tells, told_all, uart_tells, wdt_tells}
 use Rattle.chip_whole.proofs.Joins.{awaits_after, awaits_start, serves_after, serves_start}
 use Rattle.chip_whole.proofs.Runs.{cycle_after, kept_after}
-use Rattle.chip_whole.proofs.Sent.{Keeps, keeps, keeps_start, told_each, told_more}
+use Rattle.chip_whole.proofs.Sent.{bytes_empty, sends_more, told_each, told_more, told_so_far}
 
 -- credits
 
 credits_tick : (board : Board) (c : ChipState) → CreditsHold c → CreditsHold (tick board c)
 unfolding tick
 credits_tick board c h = record {
-  uart0 = serves_after at_data waiting_in uart_cycle _ _ c.units.uart0 c.cycle _ (serves_uart0 c.hub c.seat c.cycle (arriving c.units)) (λ s. keeps_count s c.cycle) h.uart0;
-  uart1 = serves_after at_data waiting_in uart_cycle _ _ c.units.uart1 c.cycle _ (serves_uart1 c.hub c.seat c.cycle (arriving c.units)) (λ s. keeps_count s c.cycle) h.uart1;
-  spi = serves_after at_either_data queued_in spi_cycle _ _ c.units.spi c.cycle _ (serves_spi c.hub c.seat c.cycle (arriving c.units)) (λ s. counts_queue s c.cycle) h.spi;
-  gpio = awaits_after gpio_cycle _ _ _ c.units.gpio c.cycle _ (gpio_hears c.hub.fronts.gpio _) (serves_gpio c.hub c.seat c.cycle (arriving c.units)) (λ s. gpio_answers s c.cycle) h.gpio;
-  pwm = awaits_after pwm_cycle _ _ _ c.units.pwm c.cycle _ (pwm_hears c.hub.fronts.pwm _) (serves_pwm c.hub c.seat c.cycle (arriving c.units)) (λ s. pwm_answers s c.cycle) h.pwm;
+  uart0 = serves_after at_data waiting_in uart_cycle _ _ c.units.uart0 c.cycle _ _ (serves_uart0 c.hub c.seat c.cycle (arriving c.units)) (λ s. keeps_count s c.cycle) h.uart0;
+  uart1 = serves_after at_data waiting_in uart_cycle _ _ c.units.uart1 c.cycle _ _ (serves_uart1 c.hub c.seat c.cycle (arriving c.units)) (λ s. keeps_count s c.cycle) h.uart1;
+  spi = serves_after at_either_data queued_in spi_cycle _ _ c.units.spi c.cycle _ _ (serves_spi c.hub c.seat c.cycle (arriving c.units)) (λ s. counts_queue s c.cycle) h.spi;
+  gpio = awaits_after gpio_cycle _ _ _ c.units.gpio c.cycle _ _ (gpio_hears c.hub.fronts.gpio _) (serves_gpio c.hub c.seat c.cycle (arriving c.units)) (λ s. gpio_answers s c.cycle) h.gpio;
+  pwm = awaits_after pwm_cycle _ _ _ c.units.pwm c.cycle _ _ (pwm_hears c.hub.fronts.pwm _) (serves_pwm c.hub c.seat c.cycle (arriving c.units)) (λ s. pwm_answers s c.cycle) h.pwm;
+  wdt = awaits_after watchdog_cycle _ _ _ c.units.wdt c.cycle _ _ (wdt_hears c.hub.fronts.wdt _) (serves_wdt c.hub c.seat c.cycle (arriving c.units)) (λ s. wdt_answers s c.cycle) h.wdt;
 }
 
-delay_at : (delays : List ℕ) (place : ℕ) → list_all is_delay delays ≡ true → suc place ≤ length delays → 1 ≤ get_or delays place 0
+delay_at : (delays : List ℕ) (place : ℕ) → list_all is_delay delays ≡ true → suc place ≤ length delays → (1 ≤ get_or delays place 0) × (get_or delays place 0 ≤ 4096)
 delay_at [] place d l = absurd (omega (arith, l))
-delay_at (d ∷ rest) zero h l = grind (arith, nat_tests)
+delay_at (d ∷ rest) zero h l = (grind (arith, nat_tests), grind (arith, nat_tests))
 delay_at (d ∷ rest) (suc place) h l = delay_at rest place (grind (arith)) (omega (arith, l))
 
 -- the delays of the seven units are within their range
@@ -57,18 +59,21 @@ pub record DelaysFit (v : Values) : Type 0 where
   pub lanes : length v.delay ≡ 7
   pub each : list_all is_delay v.delay ≡ true
 
-delay_fits : (v : Values) (place : ℕ) → DelaysFit v → place < 7 → 1 ≤ delay_of v place
+delay_fits : (v : Values) (place : ℕ) → DelaysFit v → place < 7 → (1 ≤ delay_of v place) × (delay_of v place ≤ 4096)
 delay_fits v place d l = delay_at v.delay place d.each (omega (arith, d.lanes, l))
 
 start_credits : (v : Values) (boot : Boot) (image : List ℕ) (script : Script) → DelaysFit v → CreditsHold (start v boot image script)
 unfolding start hub_start
-start_credits v boot image script d = record {
-  uart0 = serves_start at_data waiting_in _ _ (delay_fits v 0 d (omega arith)) refl;
-  uart1 = serves_start at_data waiting_in _ _ (delay_fits v 1 d (omega arith)) refl;
-  spi = serves_start at_either_data queued_in _ _ (delay_fits v 2 d (omega arith)) refl;
-  gpio = awaits_start _ _ (delay_fits v 3 d (omega arith));
-  pwm = awaits_start _ _ (delay_fits v 4 d (omega arith));
-}
+start_credits v boot image script d =
+    let fits : (place : ℕ) → place < 7 → (1 ≤ delay_of v place) × (delay_of v place ≤ 4096) = λ place l. delay_fits v place d l in
+    record {
+      uart0 = serves_start at_data waiting_in _ _ (fits 0 (omega arith)).0 (fits 0 (omega arith)).1 refl;
+      uart1 = serves_start at_data waiting_in _ _ (fits 1 (omega arith)).0 (fits 1 (omega arith)).1 refl;
+      spi = serves_start at_either_data queued_in _ _ (fits 2 (omega arith)).0 (fits 2 (omega arith)).1 refl;
+      gpio = awaits_start _ _ (fits 3 (omega arith)).0 (fits 3 (omega arith)).1;
+      pwm = awaits_start _ _ (fits 4 (omega arith)).0 (fits 4 (omega arith)).1;
+      wdt = awaits_start _ _ (fits 6 (omega arith)).0 (fits 6 (omega arith)).1;
+    }
 
 credits_after : (board : Board) (c : ChipState) (n : ℕ) → CreditsHold c → CreditsHold (after board c n)
 credits_after board c n = kept_after board CreditsHold (credits_tick board) c n
@@ -121,13 +126,13 @@ start_numbers v boot image script = record { uart0 = refl; uart1 = refl }
 
 -- the numbers of the units that tell of events
 abbrev built : List ℕ
-built = 1 ∷ 2 ∷ 4 ∷ 5 ∷ []
+built = 1 ∷ 2 ∷ 4 ∷ 5 ∷ 7 ∷ []
 
 -- each unit tells of itself
 units_tell : (board : Board) (c : ChipState) → NumbersStay c → AllTold c.cycle built (told_by_units board c.units c.cycle)
 units_tell board c n = (
   uart_event c.units.uart0 c.cycle 1 n.uart0,
-  (uart_event c.units.uart1 c.cycle 2 n.uart1, (gpio_tells c.units.gpio.unit c.cycle _, (pwm_tells c.units.pwm.unit c.cycle _, tt))),
+  (uart_event c.units.uart1 c.cycle 2 n.uart1, (gpio_tells c.units.gpio.unit c.cycle _, (pwm_tells c.units.pwm.unit c.cycle _, (wdt_tells c.units.wdt.unit c.cycle _, tt)))),
 )
 
 -- the units keep their numbers, and the events are in order
@@ -139,7 +144,7 @@ events_tick : (board : Board) (c : ChipState) → EventsStand c → EventsStand 
 unfolding tick
 events_tick board c h = record {
   numbers = numbers_tick board c h.numbers;
-  events = told_all c.cycle 0 built (told_by_units board c.units c.cycle) c.events (omega arith, (omega arith, (omega arith, (omega arith, tt)))) (units_tell board c h.numbers) h.events;
+  events = told_all c.cycle 0 built (told_by_units board c.units c.cycle) c.events (omega arith, (omega arith, (omega arith, (omega arith, (omega arith, tt))))) (units_tell board c h.numbers) h.events;
 }
 
 start_events : (v : Values) (boot : Boot) (image : List ℕ) (script : Script) → EventsStand (start v boot image script)
@@ -166,33 +171,32 @@ unfolding tick
 told_by_uart1 board c h =
     told_more 2 c.events _ ∙ ap (λ later. told_by 2 c.events ++ later) (told_each 2 c.cycle built (told_by_units board c.units c.cycle) (units_tell board c h) ∙ append-nil _)
 
--- what holds of the bytes of a UART after n cycles
-abbrev KeepsBytes : Board → ChipState → ℕ → ℕ → ℕ → Joined UartState → Type 0
-KeepsBytes board c n place unit j = Keeps (bytes_down board c place n) (resets_down board c place n) (told_by unit (after board c n).events) j.unit.fifo j.down
-
-record BytesKept (board : Board) (c : ChipState) (n : ℕ) : Type 0 where
-  uart0 : KeepsBytes board c n 0 1 (after board c n).units.uart0
-  uart1 : KeepsBytes board c n 1 2 (after board c n).units.uart1
-
-kept_next : (board : Board) (c : ChipState) (n : ℕ) → CreditsHold (after board c n) → NumbersStay (after board c n) → BytesKept board c n → BytesKept board c (suc n)
-unfolding after tick bytes_down resets_down
-kept_next board c n credits numbers h =
+sends_next : (board : Board) (c : ChipState) (n : ℕ) → CreditsHold (after board c n) → NumbersStay (after board c n) → SendsInOrder board c n → SendsInOrder board c (suc n)
+unfolding after tick bytes_down fates
+sends_next board c n credits numbers h =
     let s : ChipState = after board c n in
     let loses : LosesNone s = none_lost s credits in
     record {
-      uart0 = subst (λ told. Keeps (bytes_down board c 0 (suc n)) (resets_down board c 0 (suc n)) told (tick board s).units.uart0.unit.fifo (tick board s).units.uart0.down)
-          (sym (told_by_uart0 board s numbers)) (keeps _ _ _ _ _ _ s.units.uart0.down (sent_down s 0) credits.uart0.places.down loses.uart0 h.uart0);
-      uart1 = subst (λ told. Keeps (bytes_down board c 1 (suc n)) (resets_down board c 1 (suc n)) told (tick board s).units.uart1.unit.fifo (tick board s).units.uart1.down)
-          (sym (told_by_uart1 board s numbers)) (keeps _ _ _ _ _ _ s.units.uart1.down (sent_down s 1) credits.uart1.places.down loses.uart1 h.uart1);
+      uart0 = record {
+        all = sends_more _ _ s.units.uart0 s.cycle (sent_down s 0) credits.uart0.places.down.0 loses.uart0 h.uart0.all;
+        told = told_so_far (told_by 1 c.events) _ _ (fates board c (λ units. units.uart0) n) s.units.uart0 s.cycle (told_by_uart0 board s numbers) h.uart0.told;
+      };
+      uart1 = record {
+        all = sends_more _ _ s.units.uart1 s.cycle (sent_down s 1) credits.uart1.places.down.0 loses.uart1 h.uart1.all;
+        told = told_so_far (told_by 2 c.events) _ _ (fates board c (λ units. units.uart1) n) s.units.uart1 s.cycle (told_by_uart1 board s numbers) h.uart1.told;
+      };
     }
 
-bytes_after : (board : Board) (c : ChipState) (n : ℕ) → CreditsHold c → NumbersStay c → BytesKept board c 0 → BytesKept board c n
-bytes_after board c zero h m k = k
-bytes_after board c (suc n) h m k = kept_next board c n (credits_after board c n h) (numbers_after board c n m) (bytes_after board c n h m k)
+sends_after : (board : Board) (c : ChipState) (n : ℕ) → CreditsHold c → NumbersStay c → SendsInOrder board c 0 → SendsInOrder board c n
+sends_after board c zero h m k = k
+sends_after board c (suc n) h m k = sends_next board c n (credits_after board c n h) (numbers_after board c n m) (sends_after board c n h m k)
 
-start_bytes : (board : Board) (v : Values) (boot : Boot) (image : List ℕ) (script : Script) → BytesKept board (start v boot image script) 0
-unfolding start after bytes_down resets_down
-start_bytes board v boot image script = record { uart0 = keeps_start (delay_of v 0); uart1 = keeps_start (delay_of v 1) }
+start_sends : (board : Board) (v : Values) (boot : Boot) (image : List ℕ) (script : Script) → SendsInOrder board (start v boot image script) 0
+unfolding start after bytes_down fates
+start_sends board v boot image script = record {
+  uart0 = record { all = sym (bytes_empty (delay_of v 0)); told = refl };
+  uart1 = record { all = sym (bytes_empty (delay_of v 1)); told = refl };
+}
 
 -- for the settings of a chip
 
@@ -206,10 +210,8 @@ credits_of_setup board s boot image script n =
 pub none_lost_of_setup : (board : Board) (s : Setup) (boot : Boot) (image : List ℕ) (script : Script) (n : ℕ) → LosesNone (after board (start (values_of s) boot image script) n)
 none_lost_of_setup board s boot image script n = none_lost (after board (start (values_of s) boot image script) n) (credits_of_setup board s boot image script n)
 
--- as long as a chip runs, each UART sends what it was given, in order
+-- as long as a chip runs, each UART sends what it was given, in order, but for what a Reset loses
 pub sent_of_setup : (board : Board) (s : Setup) (boot : Boot) (image : List ℕ) (script : Script) (n : ℕ) → SendsInOrder board (start (values_of s) boot image script) n
 sent_of_setup board s boot image script n =
     let v : Values = values_of s in
-    let kept : BytesKept board (start v boot image script) n
-    = bytes_after board (start v boot image script) n (start_credits v boot image script (setup_fits s)) (start_numbers v boot image script) (start_bytes board v boot image script) in
-    record { uart0 = kept.uart0.bytes; uart1 = kept.uart1.bytes }
+    sends_after board (start v boot image script) n (start_credits v boot image script (setup_fits s)) (start_numbers v boot image script) (start_sends board v boot image script)

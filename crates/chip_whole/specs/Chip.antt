@@ -5,6 +5,8 @@ use Rattle.board_units.specs.GpioCycle.{gpio_cycle}
 use Rattle.board_units.specs.GpioState.{GpioState, gpio_start}
 use Rattle.board_units.specs.PwmCycle.{pwm_cycle}
 use Rattle.board_units.specs.PwmState.{PwmState, pwm_reset}
+use Rattle.board_units.specs.WatchdogCycle.{watchdog_cycle}
+use Rattle.board_units.specs.WatchdogState.{WatchdogState, watchdog_reset}
 use Rattle.chip_base.specs.declared.boot.Boot.{Boot}
 use Rattle.chip_base.specs.declared.event.Event.{Event}
 use Rattle.chip_base.specs.declared.message.Down.{Down}
@@ -13,7 +15,7 @@ use Rattle.chip_base.specs.declared.script.Script.{Script}
 use Rattle.chip_base.specs.declared.script.UartStep.{UartStep}
 use Rattle.chip_base.specs.declared.script.UartStep.TheVariants.{Image}
 use Rattle.chip_base.specs.UnitTable.{link_place, unit_row}
-use Rattle.chip_base.specs.declared.chip_unit.ChipUnit.TheVariants.{Uart0, Uart1, Spi, Gpio, Pwm}
+use Rattle.chip_base.specs.declared.chip_unit.ChipUnit.TheVariants.{Uart0, Uart1, Spi, Gpio, Pwm, Wdt}
 use Rattle.chip_base.specs.Settings.{Values}
 use Rattle.chip_hub.specs.Cycle.{hub_cycle}
 use Rattle.chip_hub.specs.Seat.{Seat}
@@ -40,10 +42,11 @@ pub record Units : Type 0 where
   pub spi : Joined SpiState
   pub gpio : Joined GpioState
   pub pwm : Joined PwmState
+  pub wdt : Joined WatchdogState
 
 -- what arrives at the hub in this cycle, by unit
 abbrev pub arriving : Units → List (Option Up)
-arriving u = link_first u.uart0.up ∷ link_first u.uart1.up ∷ link_first u.spi.up ∷ link_first u.gpio.up ∷ link_first u.pwm.up ∷ None ∷ None ∷ []
+arriving u = link_first u.uart0.up ∷ link_first u.uart1.up ∷ link_first u.spi.up ∷ link_first u.gpio.up ∷ link_first u.pwm.up ∷ None ∷ link_first u.wdt.up ∷ []
 
 -- the units after a cycle in which this was sent down, by unit
 abbrev pub units_after : Board → Units → ℕ → List (Option Down) → Units
@@ -53,12 +56,14 @@ units_after board u now downs = record {
   spi = joined_after spi_cycle u.spi now (get_or downs (link_place Spi) None);
   gpio = joined_after gpio_cycle u.gpio now (get_or downs (link_place Gpio) None);
   pwm = joined_after pwm_cycle u.pwm now (get_or downs (link_place Pwm) None);
+  wdt = joined_after watchdog_cycle u.wdt now (get_or downs (link_place Wdt) None);
 }
 
 -- what happens at the chip's edge in a cycle, by unit; the SPI unit tells nothing
 abbrev pub told_by_units : Board → Units → ℕ → List (Option Event)
 told_by_units board u now =
-    event_of uart_cycle u.uart0 now ∷ event_of uart_cycle u.uart1 now ∷ event_of gpio_cycle u.gpio now ∷ event_of pwm_cycle u.pwm now ∷ []
+    event_of uart_cycle u.uart0 now ∷ event_of uart_cycle u.uart1 now ∷ event_of gpio_cycle u.gpio now ∷ event_of pwm_cycle u.pwm now
+    ∷ event_of watchdog_cycle u.wdt now ∷ []
 
 -- those events that there are
 abbrev pub events_of : List (Option Event) → List Event
@@ -115,6 +120,7 @@ units_start v image script = record {
   spi = joined_start (spi_start v.flash) (delay_of v (link_place Spi));
   gpio = joined_start (gpio_start script.pins) (delay_of v (link_place Gpio));
   pwm = joined_start pwm_reset (delay_of v (link_place Pwm));
+  wdt = joined_start watchdog_reset (delay_of v (link_place Wdt));
 }
 
 -- the chip at power-on, with core 0's boot mode and the bytes of the file: no event has come

@@ -1,27 +1,17 @@
 -- A law over definitions: where the sixteen credits of a front are, and the answers that it waits for.
-use Rattle.std.specs.Prelude.{◌≡◌, ◌≤◌, ℕ, ◌+◌, Bool, List, [], ◌∷◌, ◌++◌, drop, Option, length, true, false}
+use Rattle.std.specs.Prelude.{◌≡◌, ◌≤◌, ℕ, ◌+◌, Bool, List, ◌++◌, drop, Option, length, true, false}
 use Rattle.chip_base.specs.declared.message.Down.{Down}
 use Rattle.chip_base.specs.declared.message.Up.{Up}
 use Rattle.chip_base.specs.Messages.{at_data, at_either_data, entry_in, credit_in, reset_in, done_in}
 use Rattle.unit_fronts.specs.SerialRegisters.{SerialRegisters, serial_is_open}
 use Rattle.spi_flash.specs.SpiCounts.{entries_in}
 use Rattle.spi_flash.specs.SpiCycle.{SpiState, spi_cycle}
-use Rattle.soc_words.specs.Link.{link_first}
+use Rattle.soc_words.specs.Link.{NoneBehind, count_on, link_first}
 use Rattle.uart_lane.specs.Counts.{bytes_in, bytes_out}
 use Rattle.uart_lane.specs.Cycle.{uart_cycle}
 use Rattle.uart_lane.specs.State.{UartState}
 use Rattle.chip_whole.specs.Chip.{ChipState}
 use Rattle.chip_whole.specs.Joined.{Joined}
-
--- how often something stands on a line, all places together
-abbrev pub count_on : {M : Type 0} → (Option M → ℕ) → List (Option M) → ℕ
-count_on count [] = 0
-count_on count (m ∷ rest) = count m + count_on count rest
-
--- no message of the second kind stands behind one of the first kind: none was sent after it
-abbrev pub NoneBehind : {M : Type 0} → (Option M → ℕ) → (Option M → ℕ) → List (Option M) → Type 0
-NoneBehind first second [] = Unit {0}
-NoneBehind first second (m ∷ rest) = (first m ≡ 1 → count_on second rest ≡ 0) × NoneBehind first second rest
 
 -- the answers that a front waits for are as many as the Resets on its line down and their answers on its line up
 abbrev pub AnswersComing : ℕ → List (Option Down) → List (Option Up) → Type 0
@@ -45,10 +35,14 @@ pub record HasSixteen (takes : ℕ → Bool) (front : SerialRegisters) (downs : 
 abbrev pub waiting_in : UartState → ℕ
 waiting_in s = length s.fifo
 
--- both lines of a unit have a place
+-- a line has a place for each cycle of its delay, which is 1 to 4,096
+abbrev pub IsLine : {M : Type 0} → List (Option M) → Type 0
+IsLine line = (1 ≤ length line) × (length line ≤ 4096)
+
+-- so has each line of a unit
 pub record HasPlaces {S : Type 0} (j : Joined S) : Type 0 where
-  pub down : 1 ≤ length j.down
-  pub up : 1 ≤ length j.up
+  pub down : IsLine j.down
+  pub up : IsLine j.up
 
 -- a front, and its unit whose entries are counted by `entries`
 pub record ServesUnit {S : Type 0} (takes : ℕ → Bool) (front : SerialRegisters) (entries : S → ℕ) (j : Joined S) : Type 0 where
@@ -71,6 +65,7 @@ pub record CreditsHold (c : ChipState) : Type 0 where
   pub spi : ServesUnit at_either_data c.hub.fronts.spi queued_in c.units.spi
   pub gpio : AwaitsUnit c.hub.fronts.gpio.owed c.units.gpio
   pub pwm : AwaitsUnit c.hub.fronts.pwm.owed c.units.pwm
+  pub wdt : AwaitsUnit c.hub.fronts.wdt.owed c.units.wdt
 
 -- in a cycle in which no Reset arrives, the bytes that waited and came are those that left and wait, in the same order
 abbrev pub UartLosesNone : UartState → ℕ → Option Down → Type 0

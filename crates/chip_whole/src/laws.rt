@@ -10,8 +10,8 @@ ghost use Rattle.chip_whole.specs.Order.{AreOrderedBefore};
 ghost use Rattle.chip_whole.specs.Sent.{SendsInOrder};
 
 /// In every state that a chip reaches from power-on, the sixteen credits of an open front are in the front, on its lines and in its
-/// unit; so no unit loses a byte but by a Reset, and what each UART sends is what it was given, in order. And the events stand by
-/// cycle and then by unit.
+/// unit; so no unit loses a byte but by a Reset. What each UART is given it sends, in order, but for what a Reset loses, which is
+/// exactly what waits in the unit when it arrives. And the events stand by cycle and then by unit.
 pub fn always()
     ensures credits { (board : Board) (s : Setup) (boot : Boot) (image : List ℕ) (script : Script) (n : ℕ) → CreditsHold (after board (start (values_of s) boot image script) n) }
     ensures none_lost { (board : Board) (s : Setup) (boot : Boot) (image : List ℕ) (script : Script) (n : ℕ) → LosesNone (after board (start (values_of s) boot image script) n) }
