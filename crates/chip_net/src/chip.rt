@@ -83,7 +83,7 @@ impl Chip {
     }
 
     /// One cycle: the hub and each unit from the state before it. Gives what happened at the chip's edge.
-    fn step(&mut self) -> [Option<Event>; 4]
+    fn step(&mut self) -> [Option<Event>; 5]
         requires { ⟦<Chip as Standing>⟧.now self.old + 4096 < 2 ^ 64 }
         ensures state { (board : Board) (s : ChipState) → ⟦<Chip as Standing>⟧.stands board self.old s → ⟦<Chip as Standing>⟧.stands board self.new (tick board s) }
         ensures told { (board : Board) (s : ChipState) → ⟦<Chip as Standing>⟧.stands board self.old s → (tick board s).events ≡ s.events ++ events_of result }

@@ -2,6 +2,7 @@
 ghost use Rattle.std.specs.Prelude.{◌≡◌, ◌<◌, ◌+◌, ◌^◌, suc, IfOk};
 ghost use Rattle.board_units.specs.GpioCycle.{gpio_cycle};
 ghost use Rattle.board_units.specs.PwmCycle.{pwm_cycle};
+ghost use Rattle.board_units.specs.WatchdogCycle.{watchdog_cycle};
 ghost use Rattle.chip_base.specs.Settings.{values_of};
 ghost use Rattle.chip_base.specs.UnitTable.{link_place};
 ghost use Rattle.chip_net.specs.Lanes.{joined_of};
@@ -11,7 +12,7 @@ ghost use Rattle.spi_flash.specs.SpiCycle.{spi_cycle};
 ghost use Rattle.uart_lane.specs.Cycle.{uart_cycle};
 
 use crate::links::Links;
-use board_units::{Gpio, Pwm};
+use board_units::{Gpio, Pwm, Watchdog};
 use chip_base::{ChipUnit, Cycle, Down, Event, NoMemory, Setup};
 use spi_flash::Spi;
 use std::alloc::Global;
@@ -86,4 +87,21 @@ pub(crate) fn step_pwm(lane: &mut Lane<Pwm>, now: Cycle, sent: Option<Down>) -> 
     let pwm = lane.unit.cycle(now, lane.links.at_unit());
     lane.links.step(sent, pwm.up);
     pwm.event
+}
+
+/// One cycle of the watchdog's unit and its links, in which this was sent down.
+#[inline(always)]
+pub(crate) fn step_watchdog(
+    lane: &mut Lane<Watchdog>,
+    now: Cycle,
+    sent: Option<Down>,
+) -> Option<Event>
+    requires { lane.old.links.cycle + 4096 < 2 ^ 64 }
+    ensures joined { joined_of lane.new.unit lane.new.links ≡ joined_after watchdog_cycle (joined_of lane.old.unit lane.old.links) now sent }
+    ensures event { result ≡ event_of watchdog_cycle (joined_of lane.old.unit lane.old.links) now }
+    ensures time { lane.new.links.cycle ≡ suc lane.old.links.cycle }
+{
+    let watchdog = lane.unit.cycle(now, lane.links.at_unit());
+    lane.links.step(sent, watchdog.up);
+    watchdog.event
 }

@@ -4,8 +4,6 @@
 pub mod chip;
 mod lanes;
 mod links;
-#[cfg(test)]
-mod tests;
 mod units;
 
 pub use chip::Chip;

@@ -3,10 +3,14 @@ ghost use Rattle.std.specs.Prelude.{◌≡◌, ◌≤◌, ◌<◌, ◌+◌, ◌^
 ghost use Rattle.std.specs.List.{list_any};
 ghost use Rattle.chip_base.specs.Settings.{values_of};
 ghost use Rattle.spi_flash.specs.Flash.{byte_of, flash_at};
-ghost use Rattle.chip_whole.specs.Chip.{Board, arriving, image_for, is_image, told_by_units, units_after, units_start};
+ghost use Rattle.chip_base.specs.UnitTable.{link_place, unit_row};
+ghost use Rattle.chip_net.specs.Lanes.{joined_of};
+ghost use Rattle.chip_whole.specs.Chip.{Board, arriving, delay_of, image_for, is_image, told_by_units, units_after, units_start};
+ghost use Rattle.chip_whole.specs.Joined.{joined_start};
+ghost use Rattle.uart_lane.specs.State.{uart_start};
 
-use crate::lanes::{Lane, joined, step_gpio, step_pwm, step_spi, step_uart};
-use board_units::{Gpio, Pwm};
+use crate::lanes::{Lane, joined, step_gpio, step_pwm, step_spi, step_uart, step_watchdog};
+use board_units::{Gpio, Pwm, Watchdog};
 use chip_base::{
     Bytes, ChipUnit, Cycle, Down, Event, NoMemory, Script, Setup, Steps0, UartStep, Up,
 };
@@ -24,6 +28,7 @@ pub(crate) struct Units {
     spi: Lane<Spi>,
     gpio: Lane<Gpio>,
     pwm: Lane<Pwm>,
+    wdt: Lane<Watchdog>,
     cycle: Cycle,
 }
 
@@ -41,12 +46,13 @@ impl Model for Units {
         spi = joined_of u.spi.unit u.spi.links;
         gpio = joined_of u.gpio.unit u.gpio.links;
         pwm = joined_of u.pwm.unit u.pwm.links;
+        wdt = joined_of u.wdt.unit u.wdt.links;
       };
       cycle = u.cycle;
     } };
 
     ghost invariant = { λ u. (u.uart0.links.cycle ≡ u.cycle) × (u.uart1.links.cycle ≡ u.cycle) × (u.spi.links.cycle ≡ u.cycle) × (u.gpio.links.cycle ≡ u.cycle)
-        × (u.pwm.links.cycle ≡ u.cycle) };
+        × (u.pwm.links.cycle ≡ u.cycle) × (u.wdt.links.cycle ≡ u.cycle) };
 }
 
 /// Whether a step sends the bytes of the image file.
@@ -76,6 +82,22 @@ fn image_for(alloc: Global, steps: &Steps0, image: &[u8]) -> Result<Bytes, NoMem
     }
 }
 
+/// A UART at power-on, with the bytes that it needs of the image file, and nothing on its links.
+fn joined_uart(
+    alloc: Global,
+    setup: &Setup,
+    which: ChipUnit,
+    steps: Steps0,
+    image: &[u8],
+) -> Result<Lane<Uart>, NoMemory>
+    ensures joined { IfOk result (λ lane. joined_of lane.unit lane.links
+        ≡ joined_start (uart_start (unit_row which).number steps (image_for steps image.now)) (delay_of (values_of setup.now) (link_place which))) }
+    ensures time { IfOk result (λ lane. lane.links.cycle ≡ 0) }
+{
+    let bytes = image_for(alloc, &steps, image)?;
+    joined(alloc, setup, which, Uart::new(which.number(), steps, bytes))
+}
+
 impl Units {
     /// The units at power-on, with a script to come.
     pub(crate) fn new(
@@ -86,21 +108,19 @@ impl Units {
     ) -> Result<Units, NoMemory>
         ensures { IfOk result (λ u. u ≡ record { units = units_start (values_of setup.now) image.now script; cycle = 0 }) }
     {
-        let image0 = image_for(alloc, &script.uart0, image)?;
-        let uart0 = Uart::new(ChipUnit::Uart0.number(), script.uart0, image0);
-        let uart0 = joined(alloc, setup, ChipUnit::Uart0, uart0)?;
-        let image1 = image_for(alloc, &script.uart1, image)?;
-        let uart1 = Uart::new(ChipUnit::Uart1.number(), script.uart1, image1);
-        let uart1 = joined(alloc, setup, ChipUnit::Uart1, uart1)?;
+        let uart0 = joined_uart(alloc, setup, ChipUnit::Uart0, script.uart0, image)?;
+        let uart1 = joined_uart(alloc, setup, ChipUnit::Uart1, script.uart1, image)?;
         let spi = joined(alloc, setup, ChipUnit::Spi, Spi::new(alloc, setup.flash)?)?;
         let gpio = joined(alloc, setup, ChipUnit::Gpio, Gpio::new(script.pins))?;
         let pwm = joined(alloc, setup, ChipUnit::Pwm, Pwm::new())?;
+        let wdt = joined(alloc, setup, ChipUnit::Wdt, Watchdog::new())?;
         Ok(Units {
             uart0,
             uart1,
             spi,
             gpio,
             pwm,
+            wdt,
             cycle: 0,
         })
     }
@@ -123,12 +143,12 @@ impl Units {
             self.gpio.links.at_front(),
             self.pwm.links.at_front(),
             None,
-            None,
+            self.wdt.links.at_front(),
         ]
     }
 
     /// One cycle of each unit, in which the hub sent these messages; and what happened at the chip's edge in it, by unit.
-    pub(crate) fn cycle(&mut self, downs: &[Option<Down>; 7]) -> [Option<Event>; 4]
+    pub(crate) fn cycle(&mut self, downs: &[Option<Down>; 7]) -> [Option<Event>; 5]
         requires { self.old.cycle + 4096 < 2 ^ 64 }
         ensures units { (board : Board) → self.new.units ≡ units_after board self.old.units self.old.cycle downs.now }
         ensures told { (board : Board) → result ≡ told_by_units board self.old.units self.old.cycle }
@@ -140,8 +160,9 @@ impl Units {
         step_spi(&mut self.spi, now, downs[ChipUnit::Spi.place()]);
         let gpio = step_gpio(&mut self.gpio, now, downs[ChipUnit::Gpio.place()]);
         let pwm = step_pwm(&mut self.pwm, now, downs[ChipUnit::Pwm.place()]);
+        let wdt = step_watchdog(&mut self.wdt, now, downs[ChipUnit::Wdt.place()]);
         self.cycle += 1;
-        [uart0, uart1, gpio, pwm]
+        [uart0, uart1, gpio, pwm, wdt]
     }
 
     /// The byte of the flash at an address. None exactly where no flash is fitted or the address is past its end.
