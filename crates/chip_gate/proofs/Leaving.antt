@@ -1,4 +1,4 @@
--- Once core 0 has left the monitor, it is never there again.
+-- Once core 0 has left the monitor, no turn and no grant of its own brings it back.
 use Rattle.std.proofs.Common.{◌≡◌, ℕ, ◌==◌, Bool, true, false, Option, None, Some, Result, Ok, Err, if◌then◌else◌, refl}
 use Rattle.core_pair.specs.Access.{core_granted, granted_in}
 use Rattle.core_pair.specs.Core.{CoreState, hart_of}

@@ -1,5 +1,10 @@
+pub mod Accesses
+pub mod Bytes
 pub mod Gates
+pub mod Known
 pub mod Leaving
 pub mod Outside
 pub mod Reached
+pub mod Resets
+pub mod Steps
 pub mod Ticks

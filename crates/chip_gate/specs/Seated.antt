@@ -1,7 +1,7 @@
 -- Definition: what a chip shows of the boot monitor in core 0's seat: whether it is there, the bytes that it took and sent since the last
 -- reset or power-on, and what it has left to do.
 use Rattle.std.specs.Prelude.{ℕ, Bool, true, false, List}
-use Rattle.boot_monitor.specs.Actions.{Action, after as answered_by}
+use Rattle.boot_monitor.specs.Actions.{Action, after_replies as answered_by}
 use Rattle.boot_gate.specs.Gate.{Shown}
 use Rattle.boot_gate.specs.Replies as reply
 use Rattle.chip_base.specs.Settings.{Values}
@@ -31,6 +31,10 @@ taken c = reply.taken c.seat.room c.seat.ctrl c.seat.replies
 -- the bytes that it stored to UART0's DATA
 abbrev pub sent : ChipState → List ℕ
 sent c = reply.sent c.seat.room c.seat.ctrl c.seat.replies
+
+-- it sent the flash an entry since the last reset or power-on
+abbrev pub flash_used : ChipState → Bool
+flash_used c = reply.flash_used c.seat.room c.seat.ctrl c.seat.replies
 
 abbrev pub todo : ChipState → List Action
 todo c = (answered_by c.seat.room c.seat.ctrl c.seat.replies).todo

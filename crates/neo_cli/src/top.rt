@@ -76,8 +76,8 @@ pub fn bench<R: Threads + Sync, S: Shelf, O: Sink>(
     ensures files_stay { (q : List ℕ) → (IsOut (job_of (map string_bytes words.now.items)) q → ⊥) → (S.held shelf.new).file q ≡ (S.held shelf.old).file q }
     ensures refused_stay { result ≢ 0 → result ≢ 7 → result ≢ 9 → (q : List ℕ) → (S.held shelf.new).file q ≡ (S.held shelf.old).file q }
 
-    // under boot by monitor, in each cycle of each run: core 0 leaves the monitor exactly where the command to execute follows an upload
-    // whose signature, length and checksum held
+    // under boot by monitor, in each cycle of each run, also after watchdog resets: core 0 leaves the monitor exactly where the command to
+    // execute follows an upload, or a load from the flash, whose signature, length and checksum held
     ensures gate { (setup : Setup) (board : Board) (image : List ℕ) (script : Script) (k : ℕ) → IsGatedAfter (values_of setup) board (start (values_of setup) Monitor image script) k }
 {
     perform(rt, alloc, words, shelf, out)
