@@ -11,7 +11,7 @@ use std::alloc::Global;
 use text_fields::numbers::number;
 
 /// A run that the words ask for.
-#[derive(Clone, Copy, Debug)]
+#[derive(Clone, Copy)]
 pub struct RunJob<'a> {
     /// The name of the file that is run.
     pub image: &'a str,
@@ -28,7 +28,7 @@ pub struct RunJob<'a> {
 }
 
 /// An image that is to be made.
-#[derive(Clone, Copy, Debug)]
+#[derive(Clone, Copy)]
 pub struct ImageJob<'a> {
     /// The name of the payload's file.
     pub payload: &'a str,
@@ -39,7 +39,7 @@ pub struct ImageJob<'a> {
 }
 
 /// An image that is to be checked.
-#[derive(Clone, Copy, Debug)]
+#[derive(Clone, Copy)]
 pub struct CheckJob<'a> {
     /// The name of the image's file.
     pub image: &'a str,
@@ -48,7 +48,7 @@ pub struct CheckJob<'a> {
 }
 
 /// What the words ask for.
-#[derive(Clone, Copy, Debug)]
+#[derive(Clone, Copy)]
 pub enum Job<'a> {
     Run(RunJob<'a>),
     Image(ImageJob<'a>),

@@ -3,7 +3,5 @@
 
 mod command;
 mod job;
-#[cfg(test)]
-mod tests;
 
 pub use job::{CheckJob, ImageJob, Job, RunJob, read_job};

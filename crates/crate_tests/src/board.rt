@@ -1,4 +1,4 @@
-use board_units::{Gpio, Pwm};
+use board_units::{Gpio, Pwm, Watchdog};
 use chip_base::{Cycle, Down, Event, EventKind, PinStep, Pins, UnitOut, Up};
 use std::alloc::Global;
 use std::process::Abort;
@@ -122,5 +122,44 @@ fn duties(rt: HostRuntime) {
         assert_eq!(rt; pwm.cycle(1_040, RESET), reset);
         // the duties are gone
         assert_eq!(rt; pwm.cycle(1_041, set(0, 1)), UnitOut::QUIET);
+    }
+}
+
+/// A watchdog is enabled in cycle 3 with a timeout of 256 cycles, and fed in cycle 100: it fires in cycle 355. Then it hears nothing
+/// until the Reset in cycle 400, which disables it. A feed of a disabled one does nothing.
+#[test]
+fn fires_in_time(rt: HostRuntime) {
+    let mut watchdog = Watchdog::new();
+    for now in 0..1_000 {
+        let down = match now {
+            1 => set(0, 1),
+            2 => set(4, 0xfeed),
+            3 => set(0, 0x101),
+            100 => set(4, 0xfeed),
+            360 => set(0, 0x101),
+            400 => RESET,
+            401 => set(4, 0xfeed),
+            _ => None,
+        };
+        let given = match now {
+            355 => UnitOut {
+                up: Some(Up {
+                    fire: true,
+                    ..Up::SILENT
+                }),
+                event: Some(Event {
+                    cycle: 355,
+                    unit: 7,
+                    kind: EventKind::Fire,
+                    value: 0,
+                }),
+            },
+            400 => UnitOut {
+                up: Some(Up::DONE),
+                event: None,
+            },
+            _ => UnitOut::QUIET,
+        };
+        assert_eq!(rt; watchdog.cycle(now, down), given, "in {now}");
     }
 }

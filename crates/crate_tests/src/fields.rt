@@ -1,7 +1,7 @@
 //! Lines, fields, numbers and quoted texts, as users write them.
 
 use std::alloc::Global;
-use text_fields::fields::{after, field, skip};
+use text_fields::fields::{after_field, field, skip};
 use text_fields::lines::cut_line;
 use text_fields::numbers::number;
 use text_fields::quoted::read_quoted;
@@ -29,7 +29,8 @@ fn cuts_lines_and_fields() -> bool {
         return false;
     };
     let (last, none) = cut_line(left);
-    let first = field(skip(line)) == b"pin".as_slice() && after(skip(line)) == b"5 \r".as_slice();
+    let first = field(skip(line)) == b"pin".as_slice()
+        && after_field(skip(line)) == b"5 \r".as_slice();
     first && line == b" pin\t 5 \r".as_slice() && last == b"end\r".as_slice() && none.is_none()
 }
 

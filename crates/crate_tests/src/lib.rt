@@ -23,9 +23,13 @@ mod fronts;
 #[cfg(test)]
 mod harts;
 #[cfg(test)]
+mod images;
+#[cfg(test)]
 mod line;
 #[cfg(test)]
 mod link;
+#[cfg(test)]
+mod monitor;
 #[cfg(test)]
 mod plans;
 #[cfg(test)]
@@ -36,3 +40,5 @@ mod shelves;
 mod uart;
 #[cfg(test)]
 mod values;
+#[cfg(test)]
+mod words;

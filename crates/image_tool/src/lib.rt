@@ -5,8 +5,6 @@ mod faults;
 mod judging;
 pub mod laws;
 mod making;
-#[cfg(test)]
-mod tests;
 
 pub use faults::ImageFault;
 pub use judging::{check, sum};

@@ -1,6 +1,6 @@
 //! Words as they are typed.
 
-use crate::{Job, RunJob, read_job};
+use bench_words::{Job, RunJob, read_job};
 use chip_base::Boot;
 use std::alloc::{AllocError, Global};
 

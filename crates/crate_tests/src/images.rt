@@ -1,4 +1,6 @@
-use crate::{ImageFault, check, sum, wrap};
+//! Images, as they are made and judged.
+
+use image_tool::{ImageFault, check, sum, wrap};
 use std::test::Fail;
 
 const PAYLOAD: [u8; 8] = [0x93, 0, 0x50, 0, 0x6f, 0, 0, 0];
