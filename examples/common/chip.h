@@ -90,6 +90,18 @@
 #define FLASH_BUSY              (1u << 0)
 #define FLASH_WRITABLE          (1u << 1)
 
+/* WDT, the watchdog. Where it isn't fed in time it resets the harts and every device; the memories and the flash keep what they hold. */
+#define WDT_CTRL                REGISTER(0xfffb0000)
+#define WDT_FEED                REGISTER(0xfffb0004)
+#define WDT_CAUSE               REGISTER(0xfffb0008) /* read only */
+/* of CTRL */
+#define WDT_ENABLE              (1u << 0)
+#define WDT_TIMEOUT(units)      ((uint32_t)(units) << 8) /* in units of 256 cycles; 0 disables it */
+/* the only word that feeds it */
+#define WDT_FOOD                0x0000feedu
+/* of CAUSE */
+#define WDT_RESET               (1u << 0) /* it has reset the chip since power-on */
+
 /* GPIO: 32 inputs and 32 outputs, a bit each. */
 #define GPIO_IN                 REGISTER(0xfffc0000) /* read only */
 #define GPIO_OUT                REGISTER(0xfffc0004)
@@ -107,6 +119,7 @@
 #define OPEN_SPI                (1u << 3)
 #define OPEN_GPIO               (1u << 4)
 #define OPEN_PWM                (1u << 5)
+#define OPEN_WDT                (1u << 7)
 
 /* The mailbox: where hart 1 starts, and its stack pointer. */
 #define MAILBOX_PC              REGISTER(0xfffe0100)
@@ -166,7 +179,7 @@ static inline void wait_for_interrupt(void) { __asm__ volatile("wfi" ::: "memory
         enable_interrupts();            \
     } while (0)
 
-/* The time in cycles since power-on: the low word is taken again where the high word changed meanwhile. */
+/* The time in cycles since power-on or the last watchdog reset: the low word is taken again where the high word changed meanwhile. */
 static inline uint64_t read_mtime(void)
 {
     for (;;) {
@@ -184,13 +197,23 @@ static inline void set_mtimecmp(uint32_t hart, uint64_t time)
     MTIMECMP_HIGH(hart) = (uint32_t)(time >> 32);
 }
 
-/* Starts hart 1, which is parked at power-on, with a stack that ends there. A second call doesn't start it again. */
+/* Starts hart 1, which is parked at power-on and by a watchdog reset, with a stack that ends there. A second call doesn't start it again. */
 static inline void start_hart1(void (*entry)(void), uint32_t *stack_end)
 {
     MAILBOX_PC = (uint32_t)entry;
     MAILBOX_SP = (uint32_t)stack_end;
     MSIP(1) = 1;
 }
+
+/* Waits for devices, given by bits of OPEN. A watchdog reset closes each device for twice its delay; meanwhile stores to it are ignored, and
+   loads of it give 0 (but not of CAUSE). So a program that may start after such a reset waits before it sets a device up. At power-on all are open. */
+static inline void wait_until_open(uint32_t devices)
+{
+    while ((SYSINFO_OPEN & devices) != devices) { }
+}
+
+/* Gives the watchdog its whole timeout anew. */
+static inline void feed_watchdog(void) { WDT_FEED = WDT_FOOD; }
 
 /* Sends a byte over UART0. */
 static inline void put(char c)
@@ -202,6 +225,14 @@ static inline void put(char c)
 static inline void put_text(const char *text)
 {
     while (*text) { put(*text++); }
+}
+
+/* Exchanges a byte with the flash, which must be selected, and waits for the answer. */
+static inline uint8_t spi_exchange(uint8_t byte)
+{
+    SPI_DATA = byte;
+    while (!(SPI_CTRL & SPI_RECEIVED)) { }
+    return (uint8_t)SPI_DATA;
 }
 
 #endif

@@ -1,5 +1,6 @@
 # Start-up of hart 0: the stack, the handlers of traps, the data, and then main. What main returns stands in a0 (x10) at the end.
-# Memory that the image doesn't fill is zero at power-on, so .bss isn't cleared.
+# Memory that the image doesn't fill is zero at power-on, so .bss isn't cleared. A watchdog reset begins here again with both memories as
+# they were: .bss keeps what the program left in it, and .data gets its initial values again.
 
         .section .text.start
         .globl  _start
