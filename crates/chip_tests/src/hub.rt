@@ -1,6 +1,6 @@
 //! The hub on short programs.
 
-use chip_base::{Boot, BootView, Down, PhaseWord, Setup, Up};
+use chip_base::{Boot, BootView, Cycle, Down, PhaseWord, Setup, Up};
 use chip_hub::{Hub, fits};
 
 /// addi x1, x0, 5; lui x2, 0x80000; sw x1, 0(x2); jal x0, 0
@@ -238,4 +238,60 @@ fn greets_in_time(rt: HostRuntime) {
     assert!(&rt; hub.hart(0).phase == PhaseWord::Monitor);
     assert!(&rt; hub.hart(0).retired == 0 && hub.hart(0).pc == 0);
     assert!(&rt; hub.csr(0, 0xb00) == Some(0));
+}
+
+/// What UART0 says in a cycle while a session is typed at the monitor: `u`, the image and `e`, a byte every 32 cycles from cycle 200 on, each
+/// with a credit, and then credits alone.
+fn typed(now: Cycle) -> Option<Up> {
+    if now < 200 || now % 32 != 8 {
+        return None;
+    }
+    let place = now.saturating_sub(200) / 32;
+    let byte = match place {
+        0 => Some(b'u'),
+        21 => Some(b'e'),
+        _ => IMAGE.get((place as usize).wrapping_sub(1)).copied(),
+    };
+    Some(Up {
+        credit: true,
+        has: byte.is_some(),
+        word: byte.map_or(0, u32::from),
+        ..Up::SILENT
+    })
+}
+
+/// A Fire in the very cycle of the monitor's hand-over: the monitor begins anew, and IMEM keeps what was uploaded.
+#[test]
+fn resets_at_the_hand_over(rt: HostRuntime) {
+    let hub = Hub::new(rt.alloc(), &Setup::standard(), Boot::Monitor, &[]);
+    let Ok(mut hub) = hub else {
+        panic!(&rt; "the hub was refused");
+    };
+    let mut ups = [None; 7];
+    let mut left = 0;
+    for now in 0..2000 {
+        if hub.boot() == BootView::Monitor {
+            ups[0] = typed(now);
+            hub.cycle(now, &ups);
+            left = now;
+        }
+    }
+    assert!(&rt; hub.boot() == BootView::Handed { cycle: left });
+    assert!(&rt; hub.word(0) == Some(0x0050_0093));
+
+    let hub = Hub::new(rt.alloc(), &Setup::standard(), Boot::Monitor, &[]);
+    let Ok(mut hub) = hub else {
+        panic!(&rt; "the hub was refused");
+    };
+    for now in 0..left {
+        ups[0] = typed(now);
+        hub.cycle(now, &ups);
+    }
+    assert!(&rt; hub.boot() == BootView::Monitor);
+    ups[6] = Some(Up::FIRE);
+    let downs = hub.cycle(left, &ups);
+    assert!(&rt; downs[0] == Some(Down::Reset));
+    assert!(&rt; hub.boot() == BootView::Monitor);
+    assert!(&rt; hub.hart(0).phase == PhaseWord::Monitor);
+    assert!(&rt; hub.word(0) == Some(0x0050_0093));
 }
