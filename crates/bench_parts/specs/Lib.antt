@@ -1,0 +1,4 @@
+pub mod Attached
+pub mod Behave
+pub mod Packets
+pub mod Parts
