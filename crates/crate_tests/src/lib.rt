@@ -31,6 +31,8 @@ mod link;
 #[cfg(test)]
 mod monitor;
 #[cfg(test)]
+mod parts;
+#[cfg(test)]
 mod plans;
 #[cfg(test)]
 mod scripts;

@@ -1,0 +1,5 @@
+pub mod Asks
+pub mod Behaviours
+pub mod Order
+pub mod Pace
+pub mod Works

@@ -1,0 +1,4 @@
+pub mod Laws
+pub mod Standing
+pub mod StreamCycle
+pub mod StreamState
