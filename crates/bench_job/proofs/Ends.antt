@@ -5,6 +5,7 @@ use Rattle.std.proofs.lemmas.Bool.Decides.{Decides-eqb}
 use Rattle.bench_inputs.specs.Inputs.{boot_fault, image_reading, imem_step, payload_fault, room_reading, settings_reading, script_reading, wrapped_reading}
 use Rattle.bench_inputs.specs.Lines.{image_refusal}
 use Rattle.bench_inputs.proofs.Ends.{Any, HasStatus, file_refusal, image_ends, room_ends, script_ends, settings_ends, wrapped_ends}
+use Rattle.bench_parts.specs.Attached.{HandedPart}
 use Rattle.bench_plan.specs.Answers.{Done, File, ended, refused}
 use Rattle.bench_plan.specs.Calls.{Call, Tells, WritesText}
 use Rattle.bench_plan.specs.Ends.{Ends}
@@ -22,7 +23,7 @@ use Rattle.chip_base.specs.declared.boot.Boot.TheVariants.{Direct}
 use Rattle.chip_whole.specs.Chip.{ChipState}
 use Rattle.image_tool.specs.Image.{image_of, padded}
 use Rattle.image_tool.specs.declared.faults.ImageFault.{ImageFault}
-use Rattle.bench_job.specs.Plans.{checking_plan, checking_room, checking_step, image_step, job_plan, making_plan, making_room, making_step, plan_of, report_step, run_plan, power_on_reading, settings_step, usage_refusal}
+use Rattle.bench_job.specs.Plans.{board_of, checking_plan, checking_room, checking_step, image_step, job_plan, making_plan, making_room, making_step, plan_of, report_step, run_plan, power_on_reading, settings_step, usage_refusal}
 use Rattle.bench_job.specs.Statuses.{IsOut, IsRefusedImage, IsStatus, fault_in, image_name, room_of}
 
 -- the refusals of a job
@@ -55,8 +56,8 @@ unfolding power_on_reading
 power_on_ends job = ends_then Any Any IsJobFault (settings_reading job.chip) _
     (ends_weaker Any Any (HasStatus 6) IsJobFault (settings_reading job.chip) (λ a u. tt) (λ f e. inr (inr e)) (settings_ends job.chip)) (λ v u. settings_step_ends job v)
 
-run_ends : (job : Run) → Ends (MakesOut (Some (run job))) IsJobFault (run_plan job)
-run_ends job = ends_then Any (MakesOut (Some (run job))) IsJobFault (power_on_reading job) (report_step job.cycles) (power_on_ends job) (λ chip u. λ f e. none_some e)
+run_ends : (parts : List HandedPart) (job : Run) → Ends (MakesOut (Some (run job))) IsJobFault (run_plan parts job)
+run_ends parts job = ends_then Any (MakesOut (Some (run job))) IsJobFault (power_on_reading job) (report_step (board_of parts job.part) job.cycles) (power_on_ends job) (λ chip u. λ f e. none_some e)
 
 making_ends : (job : Making) → Ends (MakesOut (Some (makes job))) IsJobFault (making_plan job)
 making_ends job = ends_then Any (MakesOut (Some (makes job))) IsJobFault (room_reading job.chip) (making_room job)
@@ -72,42 +73,42 @@ checking_ends job = ends_then Any (MakesOut (Some (checks job))) IsJobFault (roo
     (ends_weaker Any Any (HasStatus 4) IsJobFault (image_reading Direct room job.image) (λ a u. tt) (λ f e. inl e) (image_ends Direct room job.image))
     (λ image u. λ f e. none_some e))
 
-job_ends : (job : Job) → Ends (MakesOut (Some job)) IsJobFault (job_plan job)
-job_ends (run job) = run_ends job
-job_ends (makes job) = making_ends job
-job_ends (checks job) = checking_ends job
+job_ends : (parts : List HandedPart) (job : Job) → Ends (MakesOut (Some job)) IsJobFault (job_plan parts job)
+job_ends parts (run job) = run_ends parts job
+job_ends parts (makes job) = making_ends job
+job_ends parts (checks job) = checking_ends job
 
-plan_ends : (job : Option Job) → Ends (MakesOut job) (λ f. Unit {0}) (plan_of job)
-plan_ends None = tt
-plan_ends (Some job) = ends_weaker (MakesOut (Some job)) (MakesOut (Some job)) IsJobFault (λ f. Unit {0}) (job_plan job) (λ d e. e) (λ f e. tt) (job_ends job)
+plan_ends : (parts : List HandedPart) (job : Option Job) → Ends (MakesOut job) (λ f. Unit {0}) (plan_of parts job)
+plan_ends parts None = tt
+plan_ends parts (Some job) = ends_weaker (MakesOut (Some job)) (MakesOut (Some job)) IsJobFault (λ f. Unit {0}) (job_plan parts job) (λ d e. e) (λ f e. tt) (job_ends parts job)
 
 -- the only file that may be made
-out_only : (job : Option Job) (c : Call) (q : List ℕ) → MayMake (plan_of job) c q → IsOut job q
-out_only job c q m = subst (IsOut job) (sym m.4) (comes_ends (MakesOut job) (λ f. Unit {0}) c.before (plan_of job) (Ok m.0) (plan_ends job) m.2 m.1 m.3)
+out_only : (parts : List HandedPart) (job : Option Job) (c : Call) (q : List ℕ) → MayMake (plan_of parts job) c q → IsOut job q
+out_only parts job c q m = subst (IsOut job) (sym m.4) (comes_ends (MakesOut job) (λ f. Unit {0}) c.before (plan_of parts job) (Ok m.0) (plan_ends parts job) m.2 m.1 m.3)
 
 -- 7 comes only where the sink failed, or the write of the image's file
-pub failed : (job : Option Job) (c : Call) → Keeps (plan_of job) c → c.status ≡ 7
+pub failed : (parts : List HandedPart) (job : Option Job) (c : Call) → Keeps (plan_of parts job) c → c.status ≡ 7
     → Rose c.sink_faults c.sink_faults_after ⊎ ((name : List ℕ) × IsOut job name × Rose c.before.write_faults c.after.write_faults)
-failed job c k seven = elim (k.write seven) [ inl rose ↦ inl rose | inr made ↦ inr (made.0, out_only job c made.0 made.1, made.2) ]
+failed parts job c k seven = elim (k.write seven) [ inl rose ↦ inl rose | inr made ↦ inr (made.0, out_only parts job c made.0 made.1, made.2) ]
 
 -- told whole where nothing failed
-pub told_whole : (job : Option Job) (c : Call) → Keeps (plan_of job) c → IsTrue c.before.discloses
+pub told_whole : (parts : List HandedPart) (job : Option Job) (c : Call) → Keeps (plan_of parts job) c → IsTrue c.before.discloses
     → (Rose c.before.read_faults c.after.read_faults → ⊥) → ((name : List ℕ) → IsOut job name → Rose c.before.write_faults c.after.write_faults → ⊥)
-    → (Rose c.sink_faults c.sink_faults_after → ⊥) → IsTold (plan_of job) c
-told_whole job c k discloses reads writes sink_faults =
-    k.complete discloses (record { reads = reads; writes = λ name may. writes name (out_only job c name may); sink_faults = sink_faults })
+    → (Rose c.sink_faults c.sink_faults_after → ⊥) → IsTold (plan_of parts job) c
+told_whole parts job c k discloses reads writes sink_faults =
+    k.complete discloses (record { reads = reads; writes = λ name may. writes name (out_only parts job c name may); sink_faults = sink_faults })
 
 -- no write fails where no file is made
-pub quiet : (job : Option Job) (c : Call) → Keeps (plan_of job) c → ((name : List ℕ) → IsOut job name → ⊥) → c.after.write_faults ≡ c.before.write_faults
-quiet job c k none = k.no_writes (λ q may. none q (out_only job c q may))
+pub quiet : (parts : List HandedPart) (job : Option Job) (c : Call) → Keeps (plan_of parts job) c → ((name : List ℕ) → IsOut job name → ⊥) → c.after.write_faults ≡ c.before.write_faults
+quiet parts job c k none = k.no_writes (λ q may. none q (out_only parts job c q may))
 
 -- every other file stays
-pub still : (job : Option Job) (c : Call) → Keeps (plan_of job) c → (q : List ℕ) → (IsOut job q → ⊥) → c.after.file q ≡ c.before.file q
-still job c k q other = k.others q (λ may. other (out_only job c q may))
+pub still : (parts : List HandedPart) (job : Option Job) (c : Call) → Keeps (plan_of parts job) c → (q : List ℕ) → (IsOut job q → ⊥) → c.after.file q ≡ c.before.file q
+still parts job c k q other = k.others q (λ may. other (out_only parts job c q may))
 
 -- no job
-pub no_job : (job : Option Job) (c : Call) → Keeps (plan_of job) c → job ≡ None → (c.after.read_faults ≡ c.before.read_faults) × Tells (refused usage_refusal) c
-no_job job c k none = keeps_refuses usage_refusal c (λ e. absurd (cc)) (λ e. absurd (cc)) (λ e. absurd (cc)) (λ e. absurd (cc)) (subst (λ j. Keeps (plan_of j) c) none k)
+pub no_job : (parts : List HandedPart) (job : Option Job) (c : Call) → Keeps (plan_of parts job) c → job ≡ None → (c.after.read_faults ≡ c.before.read_faults) × Tells (refused usage_refusal) c
+no_job parts job c k none = keeps_refuses usage_refusal c (λ e. absurd (cc)) (λ e. absurd (cc)) (λ e. absurd (cc)) (λ e. absurd (cc)) (subst (λ j. Keeps (plan_of parts j) c) none k)
 
 -- a status other than 3, 7 and 9 is that of what the plan comes to
 end_status : (plan : Reading Done) (c : Call) → Keeps plan c → c.status ≢ 3 → c.status ≢ 7 → c.status ≢ 9
@@ -116,15 +117,15 @@ end_status plan c k three seven nine =
     let r = k.ran three nine in
     (r.end, r.comes, elim r.tells.statuses [ inl e ↦ e | inr other ↦ elim other [ inl e ↦ absurd (nine e) | inr e ↦ absurd (seven e.1) ] ], r.tells)
 
-job_status : (job : Job) (h : Held) (r : Result Done Refusal) → Comes h (job_plan job) r → ((ended r).status ≡ 0) ⊎ (((ended r).status ≡ 4) ⊎ (((ended r).status ≡ 5) ⊎ ((ended r).status ≡ 6)))
-job_status job h (Ok d) c = inl refl
-job_status job h (Err f) c = inr (comes_ends (MakesOut (Some job)) IsJobFault h (job_plan job) (Err f) (job_ends job) c)
+job_status : (parts : List HandedPart) (job : Job) (h : Held) (r : Result Done Refusal) → Comes h (job_plan parts job) r → ((ended r).status ≡ 0) ⊎ (((ended r).status ≡ 4) ⊎ (((ended r).status ≡ 5) ⊎ ((ended r).status ≡ 6)))
+job_status parts job h (Ok d) c = inl refl
+job_status parts job h (Err f) c = inr (comes_ends (MakesOut (Some job)) IsJobFault h (job_plan parts job) (Err f) (job_ends parts job) c)
 
-pub usage_only : (job : Option Job) (c : Call) → Keeps (plan_of job) c → c.status ≡ 2 → job ≡ None
-usage_only None c k two = refl
-usage_only (Some job) c k two =
-    let r = end_status (job_plan job) c k (λ e. absurd (grind (arith, two, e))) (λ e. absurd (grind (arith, two, e))) (λ e. absurd (grind (arith, two, e))) in
-    elim (job_status job c.before r.0 r.1) [
+pub usage_only : (parts : List HandedPart) (job : Option Job) (c : Call) → Keeps (plan_of parts job) c → c.status ≡ 2 → job ≡ None
+usage_only parts None c k two = refl
+usage_only parts (Some job) c k two =
+    let r = end_status (job_plan parts job) c k (λ e. absurd (grind (arith, two, e))) (λ e. absurd (grind (arith, two, e))) (λ e. absurd (grind (arith, two, e))) in
+    elim (job_status parts job c.before r.0 r.1) [
       | inl e ↦ absurd (grind (arith, two, r.2, e))
       | inr x ↦ elim x [
         | inl e ↦ absurd (grind (arith, two, r.2, e))
@@ -143,14 +144,14 @@ decided m n = by_test (m == n) refl
     by_test true e = inl ((Decides-eqb m n).0 e)
     by_test false e = inr (λ same. true_false (sym ((Decides-eqb m n).1 same) ∙ e))
 
-end_statuses : (job : Option Job) (c : Call) → Keeps (plan_of job) c → c.status ≢ 3 → c.status ≢ 7 → c.status ≢ 9 → IsStatus c.status
-end_statuses None c k three seven nine = elim (no_job None c k refl).1.statuses [
+end_statuses : (parts : List HandedPart) (job : Option Job) (c : Call) → Keeps (plan_of parts job) c → c.status ≢ 3 → c.status ≢ 7 → c.status ≢ 9 → IsStatus c.status
+end_statuses parts None c k three seven nine = elim (no_job parts None c k refl).1.statuses [
   | inl e ↦ inr (inl e)
   | inr other ↦ elim other [ inl e ↦ absurd (nine e) | inr e ↦ absurd (seven e.1) ]
 ]
-end_statuses (Some job) c k three seven nine =
-    let r = end_status (job_plan job) c k three seven nine in
-    elim (job_status job c.before r.0 r.1) [
+end_statuses parts (Some job) c k three seven nine =
+    let r = end_status (job_plan parts job) c k three seven nine in
+    elim (job_status parts job c.before r.0 r.1) [
       | inl e ↦ inl (r.2 ∙ e)
       | inr x ↦ elim x [
         | inl e ↦ inr (inr (inr (inl (r.2 ∙ e))))
@@ -158,20 +159,20 @@ end_statuses (Some job) c k three seven nine =
       ]
     ]
 
-pub statuses : (job : Option Job) (c : Call) → Keeps (plan_of job) c → IsStatus c.status
-statuses job c k = elim (decided c.status 3) [
+pub statuses : (parts : List HandedPart) (job : Option Job) (c : Call) → Keeps (plan_of parts job) c → IsStatus c.status
+statuses parts job c k = elim (decided c.status 3) [
   | inl e ↦ inr (inr (inl e))
   | inr three ↦ elim (decided c.status 7) [
     | inl e ↦ inr (inr (inr (inr (inr (inr (inl e))))))
-    | inr seven ↦ elim (decided c.status 9) [ inl e ↦ inr (inr (inr (inr (inr (inr (inr e)))))) | inr nine ↦ end_statuses job c k three seven nine ]
+    | inr seven ↦ elim (decided c.status 9) [ inl e ↦ inr (inr (inr (inr (inr (inr (inr e)))))) | inr nine ↦ end_statuses parts job c k three seven nine ]
   ]
 ]
 
 -- 4 comes of the image alone: of a run
-run_image : (job : Run) (h : Held) (f : Refusal) → Comes h (run_plan job) (Err f) → f.status ≡ 4
+run_image : (parts : List HandedPart) (job : Run) (h : Held) (f : Refusal) → Comes h (run_plan parts job) (Err f) → f.status ≡ 4
     → (v : Values) × Comes h (settings_reading job.chip) (Ok v) × Comes h (image_reading job.boot v.imem job.image) (Err f)
 unfolding power_on_reading
-run_image job h f c four = by_power_on (comes_split h (power_on_reading job) (report_step job.cycles) (Err f) c)
+run_image parts job h f c four = by_power_on (comes_split h (power_on_reading job) (report_step (board_of parts job.part) job.cycles) (Err f) c)
   where
     by_image : (v : Values) → Comes h (settings_reading job.chip) (Ok v)
         → ((e : Refusal) × (◌≡◌ {A = Result ChipState Refusal} (Err f) (Err e)) × Comes h (image_reading job.boot v.imem job.image) (Err e))
@@ -191,7 +192,7 @@ run_image job h f c four = by_power_on (comes_split h (power_on_reading job) (re
     by_settings (inr x) = by_image x.0 x.1 (comes_split h (image_reading job.boot x.0.imem job.image) (image_step job x.0) (Err f) x.2)
 
     by_power_on : ((e : Refusal) × (◌≡◌ {A = Result Done Refusal} (Err f) (Err e)) × Comes h (power_on_reading job) (Err e))
-        ⊎ ((chip : ChipState) × Comes h (power_on_reading job) (Ok chip) × Comes h (report_step job.cycles chip) (Err f))
+        ⊎ ((chip : ChipState) × Comes h (power_on_reading job) (Ok chip) × Comes h (report_step (board_of parts job.part) job.cycles chip) (Err f))
         → (v : Values) × Comes h (settings_reading job.chip) (Ok v) × Comes h (image_reading job.boot v.imem job.image) (Err f)
     by_power_on (inl x) = by_settings (comes_split h (settings_reading job.chip) (settings_step job) (Err f)
         (subst (λ e. Comes h (power_on_reading job) (Err e)) (sym (err_same x.1)) x.2))
@@ -226,9 +227,9 @@ pub record IsFaulty (job : Job) (h : Held) (f : Refusal) : Type 0 where
   pub faulty : fault_in job room bytes ≡ Some fault
   pub told : f ≡ image_refusal fault
 
-faulty_image : (job : Job) (h : Held) (f : Refusal) → Comes h (job_plan job) (Err f) → f.status ≡ 4 → IsFaulty job h f
-faulty_image (run job) h f c four =
-    let image = run_image job h f c four in
+faulty_image : (parts : List HandedPart) (job : Job) (h : Held) (f : Refusal) → Comes h (job_plan parts job) (Err f) → f.status ≡ 4 → IsFaulty job h f
+faulty_image parts (run job) h f c four =
+    let image = run_image parts job h f c four in
     let found = file_refusal h (boot_fault job.boot image.0.imem) (λ b. b) job.image f image.2 in
     record {
       room = image.0.imem;
@@ -239,7 +240,7 @@ faulty_image (run job) h f c four =
       faulty = found.3;
       told = found.4;
     }
-faulty_image (makes job) h f c four =
+faulty_image parts (makes job) h f c four =
     let image = image_after_room job.chip (λ room. wrapped_reading room job.payload) _ h f c four in
     let found = file_refusal h (payload_fault image.0) (λ b. image_of (padded b)) job.payload f image.2 in
     record {
@@ -251,7 +252,7 @@ faulty_image (makes job) h f c four =
       faulty = found.3;
       told = found.4;
     }
-faulty_image (checks job) h f c four =
+faulty_image parts (checks job) h f c four =
     let image = image_after_room job.chip (λ room. image_reading Direct room job.image) _ h f c four in
     let found = file_refusal h (boot_fault Direct image.0) (λ b. b) job.image f image.2 in
     record {
@@ -264,19 +265,19 @@ faulty_image (checks job) h f c four =
       told = found.4;
     }
 
-pub refused_image : (job : Option Job) (c : Call) → Keeps (plan_of job) c → c.status ≡ 4 → IsRefusedImage job c
-refused_image None c k four = absurd (elim (no_job None c k refl).1.statuses [
+pub refused_image : (parts : List HandedPart) (job : Option Job) (c : Call) → Keeps (plan_of parts job) c → c.status ≡ 4 → IsRefusedImage job c
+refused_image parts None c k four = absurd (elim (no_job parts None c k refl).1.statuses [
   | inl e ↦ absurd (grind (arith, four, e))
   | inr other ↦ elim other [ inl e ↦ absurd (grind (arith, four, e)) | inr e ↦ absurd (grind (arith, four, e.1)) ]
 ])
-refused_image (Some job) c k four =
-    let r = end_status (job_plan job) c k (λ e. absurd (grind (arith, four, e))) (λ e. absurd (grind (arith, four, e))) (λ e. absurd (grind (arith, four, e))) in
+refused_image parts (Some job) c k four =
+    let r = end_status (job_plan parts job) c k (λ e. absurd (grind (arith, four, e))) (λ e. absurd (grind (arith, four, e))) (λ e. absurd (grind (arith, four, e))) in
     by_end r.0 r.1 r.2 r.3
   where
-    by_end : (r : Result Done Refusal) → Comes c.before (job_plan job) r → c.status ≡ (ended r).status → Tells (ended r) c → IsRefusedImage (Some job) c
+    by_end : (r : Result Done Refusal) → Comes c.before (job_plan parts job) r → c.status ≡ (ended r).status → Tells (ended r) c → IsRefusedImage (Some job) c
     by_end (Ok d) comes same t = absurd (grind (arith, four, same))
     by_end (Err f) comes same t =
-        let found = faulty_image job c.before f comes (sym same ∙ four) in
+        let found = faulty_image parts job c.before f comes (sym same ∙ four) in
         record {
           asked = job;
           is_job = refl;

@@ -1,6 +1,7 @@
 -- Definition: what is read for a job, and what it is answered.
-use Rattle.std.specs.Prelude.{ℕ, List, ◌++◌, length, drop, Option, Some, None, codes, decimal}
+use Rattle.std.specs.Prelude.{ℕ, List, ◌++◌, length, drop, Option, Some, None, codes, decimal, option_map}
 use Rattle.bench_inputs.specs.Inputs.{image_reading, room_reading, script_reading, settings_reading, wrapped_reading}
+use Rattle.bench_parts.specs.Attached.{HandedPart, attached}
 use Rattle.bench_plan.specs.Answers.{Done}
 use Rattle.bench_plan.specs.Readings.{Refusal, Reading, followed, gives, refuses}
 use Rattle.bench_report.specs.Report.{report, shown}
@@ -8,7 +9,7 @@ use Rattle.bench_words.specs.Jobs.{Checking, Job, Making, Run, checks, makes, ru
 use Rattle.chip_base.specs.Settings.{Values, values_of}
 use Rattle.chip_base.specs.declared.boot.Boot.TheVariants.{Direct}
 use Rattle.chip_base.specs.declared.script.Script.{Script}
-use Rattle.chip_whole.specs.Chip.{ChipState, after, bare, start}
+use Rattle.chip_whole.specs.Chip.{Board, ChipState, after, start}
 use Rattle.image_tool.specs.Image.{checksum}
 use Rattle.soc_words.specs.Text.{hex_word, line}
 use Rattle.bench_job.specs.declared.deed.Deed.{Deed}
@@ -34,16 +35,20 @@ settings_step job v = followed (image_reading job.boot v.imem job.image) (image_
 unfoldable pub power_on_reading : Run → Reading ChipState
 power_on_reading job = followed (settings_reading job.chip) (settings_step job)
 
--- the report of a chip after this many cycles
-abbrev pub report_done : ChipState → ℕ → Done
-report_done chip cycles = record { text = report (shown (after bare chip cycles) cycles); out = None }
+-- the part that is attached, of those that are handed in
+abbrev pub board_of : List HandedPart → Option (List ℕ) → Board
+board_of parts name = record { part = attached parts name }
 
-abbrev pub report_step : ℕ → ChipState → Reading Done
-report_step cycles chip = gives (report_done chip cycles)
+-- the report of a chip after this many cycles
+abbrev pub report_done : Board → ChipState → ℕ → Done
+report_done board chip cycles = record { text = report (shown (after board chip cycles) cycles); out = None }
+
+abbrev pub report_step : Board → ℕ → ChipState → Reading Done
+report_step board cycles chip = gives (report_done board chip cycles)
 
 -- a run from power-on
-abbrev pub run_plan : Run → Reading Done
-run_plan job = followed (power_on_reading job) (report_step job.cycles)
+abbrev pub run_plan : List HandedPart → Run → Reading Done
+run_plan parts job = followed (power_on_reading job) (report_step (board_of parts job.part) job.cycles)
 
 -- the line of an image with this payload: the payload's length in bytes, and the checksum word
 unfoldable pub image_text : List ℕ → List ℕ
@@ -75,22 +80,22 @@ checking_room job room = followed (image_reading Direct room job.image) checking
 abbrev pub checking_plan : Checking → Reading Done
 checking_plan job = followed (room_reading job.chip) (checking_room job)
 
-abbrev pub job_plan : Job → Reading Done
-job_plan (run job) = run_plan job
-job_plan (makes job) = making_plan job
-job_plan (checks job) = checking_plan job
+abbrev pub job_plan : List HandedPart → Job → Reading Done
+job_plan parts (run job) = run_plan parts job
+job_plan parts (makes job) = making_plan job
+job_plan parts (checks job) = checking_plan job
 
--- the plan of what the words ask for
-abbrev pub plan_of : Option Job → Reading Done
-plan_of None = refuses usage_refusal
-plan_of (Some job) = job_plan job
+-- the plan of what the words ask for, with the parts that are handed in
+abbrev pub plan_of : List HandedPart → Option Job → Reading Done
+plan_of parts None = refuses usage_refusal
+plan_of parts (Some job) = job_plan parts job
 
 -- the chip at power-on that a power_on stands for
 abbrev pub power_on_view : PowerOn → ChipState
 power_on_view s = start (values_of s.setup) s.boot s.image.items s.script
 
--- what a deed comes to
-abbrev pub done_of : Deed → Done
-done_of (Line text) = record { text = text; out = None }
-done_of (Write name bytes text) = record { text = text; out = Some (record { name = name.now; bytes = bytes.items }) }
-done_of (Report power_on groups cycles) = report_done (power_on_view power_on) cycles
+-- what a deed comes to, with the parts that are handed in
+abbrev pub done_of : List HandedPart → Deed → Done
+done_of parts (Line text) = record { text = text; out = None }
+done_of parts (Write name bytes text) = record { text = text; out = Some (record { name = name.now; bytes = bytes.items }) }
+done_of parts (Report power_on groups cycles part) = report_done (board_of parts (option_map (λ s. s.now) part)) (power_on_view power_on) cycles

@@ -1,5 +1,6 @@
 //! What is done for what the words ask for.
-ghost use Rattle.std.specs.Prelude.{map, string_bytes};
+ghost use Rattle.std.specs.Prelude.{List, map, string_bytes};
+ghost use Rattle.bench_parts.specs.Attached.{HandedPart};
 ghost use Rattle.bench_plan.specs.Steps.{IsRefusal, Reads, mapped};
 ghost use Rattle.bench_words.specs.Jobs.{checking_view, job_of, job_view, making_view, run_view};
 ghost use Rattle.bench_job.specs.Plans.{checking_plan, done_of, job_plan, making_plan, plan_of, run_plan, usage_refusal};
@@ -8,6 +9,7 @@ use crate::files::read_power_on;
 use crate::image_line::image_line;
 use crate::power_on::PowerOn;
 use bench_inputs::{read_image, read_payload, read_room};
+use bench_parts::NamedPart;
 use bench_plan::{Stop, refused};
 use bench_shelf::Shelf;
 use bench_words::{CheckJob, ImageJob, Job, RunJob, read_job};
@@ -28,11 +30,13 @@ pub enum Deed<'a> {
         bytes: Vec<u8>,
         text: Line,
     },
-    /// A run of this many cycles from power-on, and its report. How the lanes are grouped doesn't change it.
+    /// A run of this many cycles from power-on, and its report, with the part of this name, where one is asked for. How the lanes are
+    /// grouped doesn't change it.
     Report {
         power_on: PowerOn,
         groups: Groups,
         cycles: u32,
+        part: Option<&'a str>,
     },
 }
 
@@ -42,13 +46,14 @@ fn decide_run<'a, S: Shelf>(
     job: &RunJob<'a>,
     shelf: &mut S,
 ) -> Result<Deed<'a>, Stop>
-    ensures { Reads S.held shelf.old shelf.new (run_plan (run_view job.now)) (mapped done_of result) }
+    ensures { (handed : List HandedPart) → Reads S.held shelf.old shelf.new (run_plan handed (run_view job.now)) (mapped (done_of handed) result) }
 {
     let power_on = read_power_on(alloc, job, shelf)?;
     Ok(Deed::Report {
         power_on,
         groups: job.groups,
         cycles: job.cycles,
+        part: job.part,
     })
 }
 
@@ -58,7 +63,7 @@ fn decide_image<'a, S: Shelf>(
     job: &ImageJob<'a>,
     shelf: &mut S,
 ) -> Result<Deed<'a>, Stop>
-    ensures { Reads S.held shelf.old shelf.new (making_plan (making_view job.now)) (mapped done_of result) }
+    ensures { (handed : List HandedPart) → Reads S.held shelf.old shelf.new (making_plan (making_view job.now)) (mapped (done_of handed) result) }
 {
     let room = read_room(alloc, job.chip, shelf)?;
     let image = read_payload(alloc, room, job.payload, shelf)?;
@@ -76,7 +81,7 @@ fn decide_check<'a, S: Shelf>(
     job: &CheckJob<'a>,
     shelf: &mut S,
 ) -> Result<Deed<'a>, Stop>
-    ensures { Reads S.held shelf.old shelf.new (checking_plan (checking_view job.now)) (mapped done_of result) }
+    ensures { (handed : List HandedPart) → Reads S.held shelf.old shelf.new (checking_plan (checking_view job.now)) (mapped (done_of handed) result) }
 {
     let room = read_room(alloc, job.chip, shelf)?;
     let image = read_image(alloc, Boot::Direct, room, job.image, shelf)?;
@@ -86,7 +91,7 @@ fn decide_check<'a, S: Shelf>(
 
 /// Reads the files of a job.
 fn decide_job<'a, S: Shelf>(alloc: Global, job: &Job<'a>, shelf: &mut S) -> Result<Deed<'a>, Stop>
-    ensures { Reads S.held shelf.old shelf.new (job_plan (job_view job.now)) (mapped done_of result) }
+    ensures { (handed : List HandedPart) → Reads S.held shelf.old shelf.new (job_plan handed (job_view job.now)) (mapped (done_of handed) result) }
 {
     match job {
         Job::Run(job) => decide_run(alloc, job, shelf),
@@ -103,15 +108,18 @@ fn usage(alloc: Global) -> Stop
     refused(alloc, 2, b"error usage\n")
 }
 
-/// Reads the files of what the words ask for.
+/// Reads the files of what the words ask for, where these parts are handed in. It looks at the parts' names alone, so what is asked for
+/// comes to the same with any parts of these names, up to how they behave.
 pub fn decide<'a, S: Shelf>(
     alloc: Global,
     words: &'a [String],
     shelf: &mut S,
+    parts: &[NamedPart],
 ) -> Result<Deed<'a>, Stop>
-    ensures { Reads S.held shelf.old shelf.new (plan_of (job_of (map string_bytes words.entry.now))) (mapped done_of result) }
+    ensures { (handed : List HandedPart) → Reads S.held shelf.old shelf.new
+        (plan_of handed (job_of (map (λ p. p.name) parts.now) (map string_bytes words.entry.now))) (mapped (done_of handed) result) }
 {
-    match read_job(alloc, words) {
+    match read_job(alloc, words, parts) {
         Err(NoMemory) => Err(Stop::Memory),
         Ok(None) => Err(usage(alloc)),
         Ok(Some(job)) => decide_job(alloc, &job, shelf),

@@ -1,11 +1,12 @@
 //! How a deed is done and told.
-ghost use Rattle.std.specs.Prelude.{◌≡◌};
+ghost use Rattle.std.specs.Prelude.{map, option_map};
 ghost use Rattle.bench_plan.specs.Answers.{done};
 ghost use Rattle.bench_plan.specs.Calls.{Says, Tells, call_of};
 ghost use Rattle.bench_job.specs.Plans.{done_of, report_done, power_on_view};
 
 use crate::deed::Deed;
 use crate::power_on::PowerOn;
+use bench_parts::{NamedPart, Part, attach};
 use bench_plan::{made, said};
 use bench_report::report_run;
 use bench_shelf::{Shelf, Sink};
@@ -13,16 +14,18 @@ use chip_base::Groups;
 use std::alloc::Global;
 use std::thread::Threads;
 
-/// Runs a chip this many cycles from power-on, and writes its report.
+/// Runs a chip this many cycles from power-on, with this part, if there is one, and writes its report.
 fn tell_run<R: Threads + Sync, O: Sink>(
     rt: &R,
     alloc: Global,
     power_on: PowerOn,
+    part: Option<Box<dyn Part + Send>>,
     groups: &Groups,
     cycles: u32,
     out: &mut O,
 ) -> u8
-    ensures { Says (done (report_done (power_on_view power_on) cycles)) O.written O.faults out.old out.new result }
+    ensures { Says (done (report_done (record { part = option_map (λ b. behave b) part }) (power_on_view power_on) cycles))
+        O.written O.faults out.old out.new result }
 {
     let PowerOn {
         setup,
@@ -30,18 +33,22 @@ fn tell_run<R: Threads + Sync, O: Sink>(
         image,
         script,
     } = power_on;
-    said(report_run(rt, alloc, &setup, boot, image, script, groups, cycles, out))
+    said(report_run(
+        rt, alloc, &setup, boot, image, script, part, groups, cycles, out,
+    ))
 }
 
-/// Does a deed and tells it, and gives the status.
+/// Does a deed and tells it, where these parts are handed in, and gives the status.
 pub fn tell<R: Threads + Sync, S: Shelf, O: Sink>(
     rt: &R,
     alloc: Global,
     deed: Deed<'_>,
     shelf: &mut S,
     out: &mut O,
+    parts: Vec<NamedPart>,
 ) -> u8
-    ensures { Tells (done (done_of deed.entry)) (call_of S.held O.written O.faults shelf.old shelf.new out.old out.new result) }
+    ensures { Tells (done (done_of (map (λ p. record { name = p.name; behave = behave (p.part.vtable, p.part.value) }) parts.items) deed.entry))
+        (call_of S.held O.written O.faults shelf.old shelf.new out.old out.new result) }
 {
     match deed {
         Deed::Line { text } => said(out.put(text.as_slice())),
@@ -50,6 +57,10 @@ pub fn tell<R: Threads + Sync, S: Shelf, O: Sink>(
             power_on,
             groups,
             cycles,
-        } => tell_run(rt, alloc, power_on, &groups, cycles, out),
+            part,
+        } => {
+            let part = attach(parts, part);
+            tell_run(rt, alloc, power_on, part, &groups, cycles, out)
+        }
     }
 }

@@ -1,15 +1,16 @@
 //! A run and its report. The events are written while the run goes on.
-ghost use Rattle.std.specs.Prelude.{◌≡◌, ◌+◌, ◌^◌, ◌<◌, ◌≤◌, ◌++◌, [], OnOk, true};
+ghost use Rattle.std.specs.Prelude.{◌≡◌, option_map, ◌+◌, ◌^◌, ◌<◌, ◌≤◌, ◌++◌, [], OnOk, true};
 ghost use Rattle.bench_report.specs.Report.{boot_text, cycles_text, events_text, report, shown};
 ghost use Rattle.bench_shelf.specs.Sink.{Writes};
 ghost use Rattle.chip_base.specs.Settings.{values_of};
 ghost use Rattle.chip_hub.specs.Start.{fits_in};
 ghost use Rattle.chip_hub.specs.Views.{boot_view};
-ghost use Rattle.chip_whole.specs.Chip.{after, bare, start};
+ghost use Rattle.chip_whole.specs.Chip.{after, start};
 ghost use Rattle.chip_whole.specs.Next.{next_events};
 ghost use Rattle.chip_whole.specs.Stands.{ForEach, IsStepped};
 
 use crate::report::{boot_line, cycles_line, put_events, put_harts, put_line, put_tail};
+use bench_parts::Part;
 use bench_shelf::{Sink, SinkFault};
 use chip_base::{Boot, Groups, Script, Setup, Steps};
 use chip_net::Chip;
@@ -98,7 +99,8 @@ fn report_chip<R: Threads + Sync, O: Sink>(
 }
 
 /// Runs a chip this many cycles from power-on, where core 0 begins in a boot mode with a file, which must fit, as `fits` of chip_hub
-/// tells, and writes its report. How the lanes are grouped doesn't change it.
+/// tells, and the stream link is fitted with a part, if there is one; and writes its report. How the lanes are grouped doesn't change
+/// it.
 pub fn report_run<R: Threads + Sync, O: Sink>(
     rt: &R,
     alloc: Global,
@@ -106,14 +108,16 @@ pub fn report_run<R: Threads + Sync, O: Sink>(
     boot: Boot,
     image: Vec<u8>,
     script: Script,
+    part: Option<Box<dyn Part + Send>>,
     groups: &Groups,
     cycles: u32,
     out: &mut O,
 ) -> Result<(), SinkFault>
     requires { fits_in boot image.items setup.now.imem ≡ true }
-    ensures { Writes O.written O.faults out.old out.new (report (shown (after bare (start (values_of setup.now) boot image.items script) cycles) cycles)) result }
+    ensures { Writes O.written O.faults out.old out.new
+        (report (shown (after (record { part = option_map (λ b. behave b) part }) (start (values_of setup.now) boot image.items script) cycles) cycles)) result }
 {
-    match Chip::new(alloc, setup, boot, image, script, groups) {
+    match Chip::new(alloc, setup, boot, image, script, part, groups) {
         Ok(mut chip) => report_chip(rt, &mut chip, cycles, out),
         Err(_) => Err(SinkFault::Memory),
     }

@@ -37,7 +37,7 @@ command name positionals options = fold with_option (fold with_positional (bare 
 -- `run IMAGE CYCLES`, with its options
 abbrev pub run_app : App
 run_app = command (codes "run") (codes "IMAGE" ∷ codes "CYCLES" ∷ [])
-    (codes "boot" ∷ codes "chip" ∷ codes "script" ∷ codes "groups" ∷ [])
+    (codes "boot" ∷ codes "chip" ∷ codes "script" ∷ codes "groups" ∷ codes "part" ∷ [])
 
 -- `image PAYLOAD OUT`, with its option
 abbrev pub image_app : App

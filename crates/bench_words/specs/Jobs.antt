@@ -1,5 +1,6 @@
 -- Definition: the job that the words of the command line give, if they give one.
 use Rattle.std.specs.Prelude.{ℕ, ◌-◌, ◌^◌, List, [], ◌∷◌, Option, Some, None, codes, if◌then◌else◌, option_and_then, option_map}
+use Rattle.std.specs.List.{list_any}
 use Rattle.std.specs.Str.{bytes_eq}
 use Rattle.clap.specs.Walk.{Row, Text}
 use Rattle.clap.specs.Words.{first_of}
@@ -14,7 +15,8 @@ use Rattle.bench_words.specs.declared.job.Job.{Job as JobRead}
 use Rattle.bench_words.specs.declared.job.Job.TheVariants.{Run as RunRead, Image as ImageRead, Check as CheckRead}
 use Rattle.bench_words.specs.declared.job.RunJob.{RunJob}
 
--- a run: its file, its cycles, the way to start, the files of the chip and of the script where they are named, the group of each lane
+-- a run: its file, its cycles, the way to start, the files of the chip and of the script where they are named, the group of each lane, and the
+-- name of the part where one is asked for
 pub record Run : Type 0 where
   pub image : Text
   pub cycles : ℕ
@@ -22,6 +24,7 @@ pub record Run : Type 0 where
   pub chip : Option Text
   pub script : Option Text
   pub groups : List ℕ
+  pub part : Option Text
 
 -- the making of an image: the file of its payload, the file that it is written to, the file of the chip where it is named
 pub record Making : Type 0 where
@@ -60,22 +63,28 @@ abbrev pub groups_or_all : Option Text → Option (List ℕ)
 groups_or_all None = groups_of (codes "all")
 groups_or_all (Some text) = groups_of text
 
--- the run, from what was found for each argument
-unfoldable pub run_from : Option Text → Option Text → Option Text → Option Text → Option Text → Option Text → Option Run
-run_from image cycles boot chip script groups =
-    option_and_then (λ b. option_and_then (λ i. option_and_then (λ n. option_and_then (λ g. Some (record {
+-- the part that is asked for, by the names of the parts that were handed in: it must be one of them
+abbrev pub part_named : List Text → Option Text → Option (Option Text)
+part_named names None = Some None
+part_named names (Some name) = if list_any (λ n. bytes_eq n name) names then Some (Some name) else None
+
+-- the run, by the names of the parts that were handed in, from what was found for each argument
+unfoldable pub run_from : List Text → Option Text → Option Text → Option Text → Option Text → Option Text → Option Text → Option Text → Option Run
+run_from names image cycles boot chip script groups part =
+    option_and_then (λ b. option_and_then (λ i. option_and_then (λ n. option_and_then (λ g. option_and_then (λ p. Some (record {
       image = i;
       cycles = n;
       boot = b;
       chip = chip;
       script = script;
       groups = g;
-    })) (groups_or_all groups)) (option_and_then cycles_of cycles)) image) (boot_or_monitor boot)
+      part = p;
+    })) (part_named names part)) (groups_or_all groups)) (option_and_then cycles_of cycles)) image) (boot_or_monitor boot)
 
 -- the run, from all that was found
-abbrev pub run_of : List Row → Option Run
-run_of rows = run_from (first_of (codes "IMAGE") rows) (first_of (codes "CYCLES") rows) (first_of (codes "boot") rows)
-    (first_of (codes "chip") rows) (first_of (codes "script") rows) (first_of (codes "groups") rows)
+abbrev pub run_of : List Text → List Row → Option Run
+run_of names rows = run_from names (first_of (codes "IMAGE") rows) (first_of (codes "CYCLES") rows) (first_of (codes "boot") rows)
+    (first_of (codes "chip") rows) (first_of (codes "script") rows) (first_of (codes "groups") rows) (first_of (codes "part") rows)
 
 -- the making of an image, from what was found for each argument
 unfoldable pub making_from : Option Text → Option Text → Option Text → Option Making
@@ -96,8 +105,8 @@ abbrev pub checking_of : List Row → Option Checking
 checking_of rows = checking_from (first_of (codes "IMAGE") rows) (first_of (codes "chip") rows)
 
 -- the jobs of the words of each command, its name among them
-abbrev pub run_job : List Text → Option Run
-run_job words = option_and_then run_of (rows_taken run_app words)
+abbrev pub run_job : List Text → List Text → Option Run
+run_job names words = option_and_then (run_of names) (rows_taken run_app words)
 
 abbrev pub making_job : List Text → Option Making
 making_job words = option_and_then making_of (rows_taken image_app words)
@@ -105,17 +114,17 @@ making_job words = option_and_then making_of (rows_taken image_app words)
 abbrev pub checking_job : List Text → Option Checking
 checking_job words = option_and_then checking_of (rows_taken check_app words)
 
--- the job of these words, by the command's name
-abbrev pub job_named : Text → List Text → Option Job
-job_named name words =
-    if bytes_eq name (codes "run") then option_map run (run_job words)
+-- the job of these words, by the names of the parts that were handed in and the command's name
+abbrev pub job_named : List Text → Text → List Text → Option Job
+job_named names name words =
+    if bytes_eq name (codes "run") then option_map run (run_job names words)
     else (if bytes_eq name (codes "image") then option_map makes (making_job words)
     else (if bytes_eq name (codes "check") then option_map checks (checking_job words) else None))
 
--- the job of the words after the program's name, the first of which names a command
-unfoldable pub job_of : List Text → Option Job
-job_of [] = None
-job_of (name ∷ rest) = job_named name (name ∷ rest)
+-- the job of the words after the program's name, the first of which names a command, by the names of the parts that were handed in
+unfoldable pub job_of : List Text → List Text → Option Job
+job_of names [] = None
+job_of names (name ∷ rest) = job_named names name (name ∷ rest)
 
 -- what a job that was read stands for
 abbrev pub run_view : RunJob → Run
@@ -126,6 +135,7 @@ run_view job = record {
   chip = option_map (λ s. s.now) job.chip;
   script = option_map (λ s. s.now) job.script;
   groups = job.groups.of;
+  part = option_map (λ s. s.now) job.part;
 }
 
 abbrev pub making_view : ImageJob → Making

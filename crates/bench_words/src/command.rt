@@ -83,7 +83,7 @@ fn command_of<'a>(
 
 static RUN_POSITIONALS: [&str; 2] = ["IMAGE", "CYCLES"];
 
-static RUN_OPTIONS: [&str; 4] = ["boot", "chip", "script", "groups"];
+static RUN_OPTIONS: [&str; 5] = ["boot", "chip", "script", "groups", "part"];
 
 /// The command `run`.
 pub fn run_command<'a>(alloc: Global) -> Result<Command<'a>, AllocError>

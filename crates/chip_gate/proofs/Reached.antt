@@ -220,23 +220,23 @@ oldest_small (b ∷ bytes) all = omega (arith, all.0)
 
 -- OPEN tells of SPI's front in bit 3
 
-third_bit : (a b d e g word : ℕ) (spi : Bool) → a ≤ 2 → b ≤ 4 → d ≤ 16 → d % 16 ≡ 0 → e ≤ 32 → e % 16 ≡ 0 → g ≤ 128 → g % 16 ≡ 0
-    → word ≡ a + b + bit_if 3 spi + d + e + 64 + g → has_bit (word / 2 ^ (8 * 0) % 2 ^ (8 * 4)) 3 ≡ spi
-third_bit a b d e g word true ha hb hd md he me hg mg is =
-    let one : word / 2 ^ (8 * 0) % 2 ^ (8 * 4) / 2 ^ 3 % 2 ≡ 1 = omega (arith, ha, hb, hd, md, he, me, hg, mg, is) in grind (arith, nat_tests)
-third_bit a b d e g word false ha hb hd md he me hg mg is =
-    let none : word / 2 ^ (8 * 0) % 2 ^ (8 * 4) / 2 ^ 3 % 2 ≡ 0 = omega (arith, ha, hb, hd, md, he, me, hg, mg, is) in grind (arith, nat_tests)
+third_bit : (a b d e h g word : ℕ) (spi : Bool) → a ≤ 2 → b ≤ 4 → d ≤ 16 → d % 16 ≡ 0 → e ≤ 32 → e % 16 ≡ 0 → h ≤ 64 → h % 16 ≡ 0 → g ≤ 128 → g % 16 ≡ 0
+    → word ≡ a + b + bit_if 3 spi + d + e + h + g → has_bit (word / 2 ^ (8 * 0) % 2 ^ (8 * 4)) 3 ≡ spi
+third_bit a b d e h g word true ha hb hd md he me hh mh hg mg is =
+    let one : word / 2 ^ (8 * 0) % 2 ^ (8 * 4) / 2 ^ 3 % 2 ≡ 1 = omega (arith, ha, hb, hd, md, he, me, hh, mh, hg, mg, is) in grind (arith, nat_tests)
+third_bit a b d e h g word false ha hb hd md he me hh mh hg mg is =
+    let none : word / 2 ^ (8 * 0) % 2 ^ (8 * 4) / 2 ^ 3 % 2 ≡ 0 = omega (arith, ha, hb, hd, md, he, me, hh, mh, hg, mg, is) in grind (arith, nat_tests)
 
-high_bit : (b : Bool) → (bit_if 4 b % 16 ≡ 0) × (bit_if 5 b % 16 ≡ 0) × (bit_if 7 b % 16 ≡ 0)
-high_bit true = (refl, refl, refl)
-high_bit false = (refl, refl, refl)
+high_bit : (b : Bool) → (bit_if 4 b % 16 ≡ 0) × (bit_if 5 b % 16 ≡ 0) × (bit_if 6 b % 16 ≡ 0) × (bit_if 7 b % 16 ≡ 0)
+high_bit true = (refl, refl, refl, refl)
+high_bit false = (refl, refl, refl, refl)
 
 open_bit_of : (f : Fronts) → has_bit (open_word f / 2 ^ (8 * 0) % 2 ^ (8 * 4)) 3 ≡ serial_is_open f.spi
 open_bit_of f =
     third_bit (bit_if 1 (is_open_at f.uart0.owed)) (bit_if 2 (is_open_at f.uart1.owed)) (bit_if 4 (is_open_at f.gpio.owed))
-    (bit_if 5 (is_open_at f.pwm.owed)) (bit_if 7 (is_open_at f.wdt.owed)) (open_word f) (is_open_at f.spi.owed)
-    (bit_small 1 _) (bit_small 2 _) (bit_small 4 _) (high_bit (is_open_at f.gpio.owed)).0 (bit_small 5 _) (high_bit (is_open_at f.pwm.owed)).1 (bit_small 7 _)
-    (high_bit (is_open_at f.wdt.owed)).2 refl
+    (bit_if 5 (is_open_at f.pwm.owed)) (bit_if 6 (is_open_at f.slink.owed)) (bit_if 7 (is_open_at f.wdt.owed)) (open_word f) (is_open_at f.spi.owed)
+    (bit_small 1 _) (bit_small 2 _) (bit_small 4 _) (high_bit (is_open_at f.gpio.owed)).0 (bit_small 5 _) (high_bit (is_open_at f.pwm.owed)).1
+    (bit_small 6 _) (high_bit (is_open_at f.slink.owed)).2 (bit_small 7 _) (high_bit (is_open_at f.wdt.owed)).3 refl
 
 module _ (s : HubState) (imem_size : IsSize (length s.memory.imem)) (dmem_size : IsSize (length s.memory.dmem)) where
   served_by : (r : Request) (region : Region) → admitted r (length s.memory.imem) (length s.memory.dmem) ≡ Ok region → IsServed s r (in_region s r region)

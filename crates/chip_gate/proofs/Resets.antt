@@ -16,7 +16,7 @@ use Rattle.chip_hub.specs.Cycle.{arrived, fires, hub_cycle, hub_worked, reset_by
 use Rattle.chip_hub.specs.Seat.{Seat}
 use Rattle.chip_hub.specs.Start.{first_core, hub_start, seat_start}
 use Rattle.chip_hub.specs.State.{HubStep}
-use Rattle.chip_whole.specs.Chip.{Board, ChipState, after, arriving, delay_of, start, stepped, tick}
+use Rattle.chip_whole.specs.Chip.{Board, ChipState, after, delay_of, start, stepped, tick}
 use Rattle.core_pair.specs.declared.phase.Phase.TheVariants.{Monitor}
 use Rattle.delay_line.specs.Queue.{empty_link}
 use Rattle.flash_seen.specs.Seen.{seen}
@@ -39,7 +39,7 @@ use Rattle.chip_gate.specs.Seated.{is_monitor}
 use Rattle.chip_gate.proofs.Bytes.{CarriesBytes, start_bytes, stays_bytes}
 use Rattle.chip_gate.proofs.Outside.{StaysOut, cycle_out}
 use Rattle.chip_gate.proofs.Reached.{never}
-use Rattle.chip_gate.proofs.Steps.{Fits, Goes, Keeps, base_none, holds_on, path_by, worked_on}
+use Rattle.chip_gate.proofs.Steps.{Fits, Goes, Keeps, arrivals, base_none, holds_on, path_by, worked_on}
 use Rattle.chip_gate.proofs.Ticks.{AfterMonitor, cycle_in, is_monitor_phase}
 
 -- a front that was closed waits for an answer
@@ -62,17 +62,17 @@ monitor_first seat e = ap (λ boot. (first_core boot).phase) e
 
 -- the chip after a cycle in which it is
 abbrev reset_on : Board → ChipState → ChipState
-reset_on board c = stepped board c (reset_by c.hub c.seat (arriving c.units))
+reset_on board c = stepped board c (reset_by c.hub c.seat (arrivals c))
 
 -- a Fire arrives
-fire_goes : (v : Values) (board : Board) (old : Option (Option (List ℕ))) (c : ChipState) → fires (arriving c.units) ≡ true → Keeps v old c
+fire_goes : (v : Values) (board : Board) (old : Option (Option (List ℕ))) (c : ChipState) → fires (arrivals c) ≡ true → Keeps v old c
     → Goes v (based None (reset_on board c)) c (reset_on board c)
 fire_goes v board old c e k =
-    let h : HubStep = reset_by c.hub c.seat (arriving c.units) in
+    let h : HubStep = reset_by c.hub c.seat (arrivals c) in
     let n : ChipState = stepped board c h in
     let once : fire_in (link_first c.units.wdt.up) ≡ 1 = fires_once (link_first c.units.wdt.up) e in
     let p : path_in n ≡ after_touch (path_in c) c.cycle Closes = path_by board c h Closes refl refl in
-    let shut : serial_is_open n.hub.fronts.spi ≡ false = owes (arrived c.hub (arriving c.units)).fronts.spi.owed in
+    let shut : serial_is_open n.hub.fronts.spi ≡ false = owes (arrived c.hub (arrivals c)).fronts.spi.owed in
     let here : n.hub.core0.phase ≡ Monitor = monitor_first c.seat k.holds.boot in
     record {
       keeps = record {
@@ -123,7 +123,7 @@ out_goes : (v : Values) (board : Board) (old : Option (Option (List ℕ))) (c : 
     → is_monitor c.hub.core0.phase ≡ false → Keeps v old c → Goes v (based old (worked_on board c)) c (worked_on board c)
 out_goes v board old c quiet gone k =
     let n : ChipState = worked_on board c in
-    let out : StaysOut c.seat (hub_worked c.hub c.seat c.cycle (arriving c.units)) = cycle_out c.hub c.seat c.cycle (arriving c.units) gone in
+    let out : StaysOut c.seat (hub_worked c.hub c.seat c.cycle (arrivals c)) = cycle_out c.hub c.seat c.cycle (arrivals c) gone in
     record {
       keeps = record {
         holds = holds_on v board c quiet k.holds;
@@ -155,10 +155,10 @@ worked_goes v board old c fits quiet k false gone = out_goes v board old c quiet
 -- by whether a Fire arrives
 abbrev GoesFrom : Values → Board → Option (Option (List ℕ)) → ChipState → Bool → Type 0
 GoesFrom v board old c fired =
-    let h : HubStep = if fired then reset_by c.hub c.seat (arriving c.units) else hub_worked c.hub c.seat c.cycle (arriving c.units) in
+    let h : HubStep = if fired then reset_by c.hub c.seat (arrivals c) else hub_worked c.hub c.seat c.cycle (arrivals c) in
     Goes v (based (if fired then None else old) (stepped board c h)) c (stepped board c h)
 
-by_fire : (v : Values) (board : Board) (old : Option (Option (List ℕ))) (c : ChipState) → Fits v → Keeps v old c → (b : Bool) → fires (arriving c.units) ≡ b
+by_fire : (v : Values) (board : Board) (old : Option (Option (List ℕ))) (c : ChipState) → Fits v → Keeps v old c → (b : Bool) → fires (arrivals c) ≡ b
     → GoesFrom v board old c b
 by_fire v board old c fits k true e = fire_goes v board old c e k
 by_fire v board old c fits k false e = worked_goes v board old c fits (fires_never (link_first c.units.wdt.up) e) k _ refl
@@ -167,7 +167,7 @@ by_fire v board old c fits k false e = worked_goes v board old c fits (fires_nev
 pub tick_goes : (v : Values) (board : Board) (old : Option (Option (List ℕ))) (c : ChipState) → Fits v → Keeps v old c
     → Goes v (based (kept_over c old) (tick board c)) c (tick board c)
 unfolding tick hub_cycle
-tick_goes v board old c fits k = by_fire v board old c fits k (fires (arriving c.units)) refl
+tick_goes v board old c fits k = by_fire v board old c fits k (fires (arrivals c)) refl
 
 -- at power-on
 

@@ -32,6 +32,10 @@ use Rattle.chip_gate.proofs.Bytes.{CarriesBytes, stays_bytes}
 use Rattle.chip_gate.proofs.Known.{FlashAt, HasBase, IsKnown, WillHaveBase}
 use Rattle.chip_gate.proofs.Accesses.{Reaches, SameMonitor, worked_reaches, worked_same}
 
+-- what arrives at a chip's hub in the cycle that comes
+abbrev pub arrivals : ChipState → List (Option Up)
+arrivals c = arriving c.units (link_first c.slink.up)
+
 -- a delay of links
 pub record IsDelay (delay : ℕ) : Type 0 where
   pub one : 1 ≤ delay
@@ -103,23 +107,23 @@ path_is : (board : Board) (c : ChipState) (h : HubStep) (touch : Touch) → h.hu
 path_is board c h touch front sent = ap₂ (λ f d. path_after (path_in c) c.cycle f d) front sent
 
 -- by what the hub did with the front that had heard the arrivals
-pub path_by : (board : Board) (c : ChipState) (h : HubStep) (touch : Touch) → h.hub.fronts.spi ≡ front_after (arrived c.hub (arriving c.units)).fronts.spi touch
-    → get_or h.downs (link_place Spi) None ≡ sent_by (arrived c.hub (arriving c.units)).fronts.spi touch
+pub path_by : (board : Board) (c : ChipState) (h : HubStep) (touch : Touch) → h.hub.fronts.spi ≡ front_after (arrived c.hub (arrivals c)).fronts.spi touch
+    → get_or h.downs (link_place Spi) None ≡ sent_by (arrived c.hub (arrivals c)).fronts.spi touch
     → path_in (stepped board c h) ≡ after_touch (path_in c) c.cycle touch
 path_by board c h touch front sent =
-    let heard_here : (arrived c.hub (arriving c.units)).fronts.spi ≡ heard (path_in c) = heard_is c.hub.fronts.spi (link_first c.units.spi.up) in
+    let heard_here : (arrived c.hub (arrivals c)).fronts.spi ≡ heard (path_in c) = heard_is c.hub.fronts.spi (link_first c.units.spi.up) in
     path_is board c h touch (front ∙ ap (λ f. front_after f touch) heard_here) (sent ∙ ap (λ f. sent_by f touch) heard_here)
 
 -- the chip after a cycle in which the hub isn't reset
 abbrev pub worked_on : Board → ChipState → ChipState
-worked_on board c = stepped board c (hub_worked c.hub c.seat c.cycle (arriving c.units))
+worked_on board c = stepped board c (hub_worked c.hub c.seat c.cycle (arrivals c))
 
 -- what holds whoever runs, after such a cycle
 pub holds_on : (v : Values) (board : Board) (c : ChipState) → fire_in (link_first c.units.wdt.up) ≡ 0 → Holds v c → Holds v (worked_on board c)
 holds_on v board c no_fire k =
-    let h : HubStep = hub_worked c.hub c.seat c.cycle (arriving c.units) in
-    let r : Reaches (arrived c.hub (arriving c.units)) h.hub h.downs = worked_reaches c.hub c.seat c.cycle (arriving c.units) in
-    let s : SameMonitor c.seat h.seat = worked_same c.hub c.seat c.cycle (arriving c.units) in
+    let h : HubStep = hub_worked c.hub c.seat c.cycle (arrivals c) in
+    let r : Reaches (arrived c.hub (arrivals c)) h.hub h.downs = worked_reaches c.hub c.seat c.cycle (arrivals c) in
+    let s : SameMonitor c.seat h.seat = worked_same c.hub c.seat c.cycle (arrivals c) in
     let p : path_in (stepped board c h) ≡ after_touch (path_in c) c.cycle r.touch = path_by board c h r.touch r.front r.sent in
     record {
       boot = s.boot ∙ k.boot;

@@ -17,7 +17,7 @@ use Rattle.chip_hub.specs.Access.{Accessed, accessed}
 use Rattle.chip_hub.specs.Cycle.{answered_core0, arrived, hub_worked, nobody_served, seat_after, served, served_core0, served_to, timed, turn0, turn1, turned0, turned1, wanted0, wants_of}
 use Rattle.chip_hub.specs.Seat.{Seat, asked, hands_over, is_hand_over, reply_in, request_in, seat_turned, standing}
 use Rattle.chip_hub.specs.State.{HubState, HubStep}
-use Rattle.chip_whole.specs.Chip.{Board, ChipState, arriving, stepped}
+use Rattle.chip_whole.specs.Chip.{Board, ChipState, stepped}
 use Rattle.core_pair.specs.Clint.{ClintState}
 use Rattle.core_pair.specs.Core.{CoreState, reset_core, wanted_in}
 use Rattle.core_pair.specs.declared.phase.Phase.{Phase}
@@ -47,7 +47,7 @@ use Rattle.chip_gate.specs.Seated.{is_monitor, shown_by, taken}
 use Rattle.chip_gate.proofs.Bytes.{arrived_bytes, heard_kept}
 use Rattle.chip_gate.proofs.Known.{FlashAt, HasBase, IsKnown, IsWordOf, WillHaveBase, asks_next, flash_next, hears, is_open_request, rests, shut_asks}
 use Rattle.chip_gate.proofs.Reached.{IsServed, accessed_core, monitor_served, never}
-use Rattle.chip_gate.proofs.Steps.{AtMonitor, Fits, HasLeft, Holds, flash_on, heard_is, path_by, quiet_ended}
+use Rattle.chip_gate.proofs.Steps.{AtMonitor, Fits, HasLeft, Holds, arrivals, flash_on, heard_is, path_by, quiet_ended}
 
 -- after a cycle that began in the monitor
 pub record AfterMonitor (v : Values) (base : Option (Option (List ℕ))) (next : ChipState) : Type 0 where
@@ -177,7 +177,7 @@ phase_of c = c.phase
 
 -- the hub after the arrivals, mtime and both turns
 abbrev turned_hub : ChipState → HubState
-turned_hub c = turn1 (turn0 (timed (arrived c.hub (arriving c.units))) c.seat c.cycle) c.cycle
+turned_hub c = turn1 (turn0 (timed (arrived c.hub (arrivals c))) c.seat c.cycle) c.cycle
 
 -- the seat after its turn
 abbrev turned_seat : ChipState → Seat
@@ -199,7 +199,7 @@ module _ (v : Values) (board : Board) (base : Option (Option (List ℕ))) (c : C
   heard_flash = hears c.seat.room c.seat.ctrl base at.before c.seat.replies (path_in c) c.cycle k.always at.flash
 
   core1_still : (turned_hub c).core1.phase ≡ Parked
-  core1_still = core1_stays (turn0 (timed (arrived c.hub (arriving c.units))) c.seat c.cycle) c.cycle c.hub.core1.phase refl at.parked at.still
+  core1_still = core1_stays (turn0 (timed (arrived c.hub (arrivals c))) c.seat c.cycle) c.cycle c.hub.core1.phase refl at.parked at.still
 
   -- nobody is served, and the monitor stays
   rests_at : (turns : ArbiterState) → hands_over c.seat ≡ false → (turned_hub c).core0.phase ≡ Monitor
@@ -263,7 +263,7 @@ module _ (v : Values) (board : Board) (base : Option (Option (List ℕ))) (c : C
   -- its request is served
 
   abbrev arrived_front : SerialRegisters
-  arrived_front = (arrived c.hub (arriving c.units)).fronts.spi
+  arrived_front = (arrived c.hub (arrivals c)).fronts.spi
 
   fits_heard : (request : Request) (word : ℕ)
       → (arrived_front.kept < 2 ^ 23 → AreBytes arrived_front.received → ReplyFits arrived_front (place_at request.addr) request.store word)
@@ -321,19 +321,19 @@ module _ (v : Values) (board : Board) (base : Option (Option (List ℕ))) (c : C
   by_turn : c.hub.core0.phase ≡ Monitor → (b : Bool) → hands_over c.seat ≡ b → (o : Option Request) → standing (turned_seat c) ≡ o
       → After (served (turned_hub c) (turned_seat c) (wants_of (turned_hub c) (turned_seat c)))
   by_turn phase true hands o e =
-      let left : (turned_hub c).core0.phase ≡ Run 0 = ap phase_of (core0_turned (timed (arrived c.hub (arriving c.units))) c.seat c.cycle true phase hands) in
+      let left : (turned_hub c).core0.phase ≡ Run 0 = ap phase_of (core0_turned (timed (arrived c.hub (arrivals c))) c.seat c.cycle true phase hands) in
       serves_none After (turned_hub c) (turned_seat c) (ap (wanted0 (turned_seat c)) left) core1_still at.idle (λ turns. hands_at turns hands left at.flash)
   by_turn phase false hands None e =
       let still_there : (turned_hub c).core0.phase ≡ Monitor
-      = ap phase_of (core0_turned (timed (arrived c.hub (arriving c.units))) c.seat c.cycle false phase hands) ∙ phase in
+      = ap phase_of (core0_turned (timed (arrived c.hub (arrivals c))) c.seat c.cycle false phase hands) ∙ phase in
       serves_none After (turned_hub c) (turned_seat c) (ap (wanted0 (turned_seat c)) still_there ∙ e) core1_still at.idle (λ turns. rests_at turns hands still_there)
   by_turn phase false hands (Some request) e =
       let still_there : (turned_hub c).core0.phase ≡ Monitor
-      = ap phase_of (core0_turned (timed (arrived c.hub (arriving c.units))) c.seat c.cycle false phase hands) ∙ phase in
+      = ap phase_of (core0_turned (timed (arrived c.hub (arrivals c))) c.seat c.cycle false phase hands) ∙ phase in
       serves_one After (turned_hub c) (turned_seat c) request still_there e core1_still at.idle
       (λ turns. asks_at turns request hands still_there (sym (asked_turned c.seat c.cycle) ∙ standing_asked (turned_seat c) request e))
 
-  pub cycle_in : c.hub.core0.phase ≡ Monitor → After (hub_worked c.hub c.seat c.cycle (arriving c.units))
+  pub cycle_in : c.hub.core0.phase ≡ Monitor → After (hub_worked c.hub c.seat c.cycle (arrivals c))
   unfolding hub_worked
   cycle_in phase =
       let then_seat : seat_after c.seat c.cycle c.hub.core0.phase ≡ turned_seat c = ap (seat_after c.seat c.cycle) phase in

@@ -2,6 +2,7 @@
 use Rattle.std.specs.Prelude.{ℕ, zero, suc, Bool, List, Option, Some, None, if◌then◌else◌}
 use Rattle.chip_hub.specs.Cycle.{fires}
 use Rattle.chip_whole.specs.Chip.{Board, ChipState, after, arriving}
+use Rattle.soc_words.specs.Link.{link_first}
 use Rattle.spi_flash.specs.Flash.{FlashState, settled}
 use Rattle.unit_fronts.specs.SerialRegisters.{serial_is_open}
 
@@ -14,7 +15,7 @@ flash_in c = bytes_once_done c.units.spi.unit.flash
 
 -- the hub is reset in the cycle that comes
 abbrev pub is_reset_next : ChipState → Bool
-is_reset_next c = fires (arriving c.units)
+is_reset_next c = fires (arriving c.units (link_first c.slink.up))
 
 -- nothing yet, and SPI's front is open: it is what stands in the flash now
 abbrev pub based : Option (Option (List ℕ)) → ChipState → Option (Option (List ℕ))

@@ -25,6 +25,7 @@ use Rattle.unit_fronts.specs.SerialRegisters.{SerialRegisters, serial_closed, se
 use Rattle.unit_fronts.specs.GpioFront.{GpioRegisters, gpio_answered, gpio_arrived, gpio_arrived_open, gpio_sent, gpio_stored, gpio_stored_open}
 use Rattle.unit_fronts.specs.PwmFront.{PwmRegisters, pwm_arrived, pwm_sent, pwm_stored}
 use Rattle.unit_fronts.specs.SerialFront.{SerialKind, serial_loaded, serial_stored, serial_sent}
+use Rattle.unit_fronts.specs.SlinkFront.{slink_kind}
 use Rattle.unit_fronts.specs.SpiFront.{spi_kind}
 use Rattle.unit_fronts.specs.UartFront.{uart_kind}
 use Rattle.unit_fronts.specs.WdtFront.{WatchdogRegisters, watchdog_arrived, watchdog_sent, watchdog_stored}
@@ -270,6 +271,24 @@ pub serves_spi : (s : HubState) (seat : Seat) (now : ℕ) (ups : List (Option Up
 serves_spi = cycle_serves serial_closed (ServesSerial at_either_data) (λ (f : Fronts). f.spi) (link_place Spi) (record {
   no_front = λ f. serves_nothing at_either_data f.spi;
   device = λ s r unit reg. spi_reached s.fronts r unit reg;
+}) (λ f. refl) refl
+
+-- what an access to a unit's registers does to the front of slink
+slink_reached : (f : Fronts) (r : Request) (unit : ChipUnit) (reg : ℕ) → ServesSerial at_either_data f.slink (get_or (only_to unit (unit_down f r unit reg)) (link_place Slink) None) (fronts_after f r unit reg).slink
+slink_reached f r Uart0 reg = serves_nothing at_either_data f.slink
+slink_reached f r Uart1 reg = serves_nothing at_either_data f.slink
+slink_reached f r Spi reg = serves_nothing at_either_data f.slink
+slink_reached f r Gpio reg = serves_nothing at_either_data f.slink
+slink_reached f r Pwm reg = serves_nothing at_either_data f.slink
+slink_reached f r Slink reg = serial_access slink_kind refl f.slink r reg r.store
+slink_reached f r Wdt reg = serves_nothing at_either_data f.slink
+
+-- what a cycle does to the front of slink, after the arrivals
+pub serves_slink : (s : HubState) (seat : Seat) (now : ℕ) (ups : List (Option Up))
+    → CycleServes serial_closed (ServesSerial at_either_data) (fires ups) (arrived s ups).fronts.slink (get_or (hub_cycle s seat now ups).downs (link_place Slink) None) (hub_cycle s seat now ups).hub.fronts.slink
+serves_slink = cycle_serves serial_closed (ServesSerial at_either_data) (λ (f : Fronts). f.slink) (link_place Slink) (record {
+  no_front = λ f. serves_nothing at_either_data f.slink;
+  device = λ s r unit reg. slink_reached s.fronts r unit reg;
 }) (λ f. refl) refl
 
 -- what an access does to the answers that a front without entries waits for: nothing, and it sends no Reset

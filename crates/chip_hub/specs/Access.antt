@@ -1,5 +1,5 @@
 -- A definition: an access that was granted.
-use Rattle.std.specs.Prelude.{◌==◌, ℕ, ◌+◌, Bool, true, List, length, Option, Some, None, Result, Ok, Err, if◌then◌else◌}
+use Rattle.std.specs.Prelude.{◌==◌, ℕ, ◌+◌, Bool, List, length, Option, Some, None, Result, Ok, Err, if◌then◌else◌}
 use Rattle.chip_base.specs.Bits.{bit_if}
 use Rattle.chip_base.specs.UnitTable.{unit_numbered, unit_row}
 use Rattle.chip_base.specs.declared.chip_unit.ChipUnit.{ChipUnit}
@@ -59,11 +59,11 @@ in_mailbox s r (Some value) = done (record s { mailbox = mailbox_stored s.mailbo
 abbrev pub open_bit : ChipUnit → Bool → ℕ
 open_bit unit is_open = bit_if (unit_row unit).number is_open
 
--- OPEN; a unit that isn't built counts as open
+-- OPEN
 abbrev pub open_word : Fronts → ℕ
 open_word f =
     open_bit Uart0 (is_open_at f.uart0.owed) + open_bit Uart1 (is_open_at f.uart1.owed) + open_bit Spi (is_open_at f.spi.owed) + open_bit Gpio (is_open_at f.gpio.owed)
-    + open_bit Pwm (is_open_at f.pwm.owed) + open_bit Slink true + open_bit Wdt (is_open_at f.wdt.owed)
+    + open_bit Pwm (is_open_at f.pwm.owed) + open_bit Slink (is_open_at f.slink.owed) + open_bit Wdt (is_open_at f.wdt.owed)
 
 -- the registers that tell the settings: CLK, IMEM, DMEM and OPEN
 abbrev pub sysinfo_word : HubState → ℕ → ℕ

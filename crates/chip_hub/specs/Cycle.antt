@@ -5,7 +5,7 @@ use Rattle.chip_base.specs.Messages.{fire_in}
 use Rattle.chip_base.specs.declared.message.Up.{Up}
 use Rattle.chip_base.specs.UnitTable.{link_place}
 use Rattle.chip_base.specs.declared.chip_unit.ChipUnit.{ChipUnit}
-use Rattle.chip_base.specs.declared.chip_unit.ChipUnit.TheVariants.{Uart0, Uart1, Spi, Gpio, Pwm, Wdt}
+use Rattle.chip_base.specs.declared.chip_unit.ChipUnit.TheVariants.{Uart0, Uart1, Spi, Gpio, Pwm, Slink, Wdt}
 use Rattle.core_pair.specs.Access.{core_granted}
 use Rattle.core_pair.specs.Clint.{clint_ticked}
 use Rattle.core_pair.specs.Core.{CoreState, reset_core, started, wanted_in}
@@ -59,6 +59,7 @@ arrived s ups = record s {
     spi = arrived_at s.fronts.spi (arrival_of Spi ups);
     gpio = arrived_at_gpio s.fronts.gpio (arrival_of Gpio ups);
     pwm = arrived_at_pwm s.fronts.pwm (arrival_of Pwm ups);
+    slink = arrived_at s.fronts.slink (arrival_of Slink ups);
     wdt = arrived_at_watchdog s.fronts.wdt (arrival_of Wdt ups);
   };
 }
@@ -173,6 +174,7 @@ closed f = record {
   spi = serial_closed f.spi;
   gpio = gpio_closed f.gpio;
   pwm = pwm_closed f.pwm;
+  slink = serial_closed f.slink;
   wdt = watchdog_closed f.wdt;
 }
 

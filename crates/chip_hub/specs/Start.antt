@@ -63,6 +63,7 @@ fronts_start = record {
   spi = serial_front_reset 0;
   gpio = gpio_front_reset 0;
   pwm = pwm_front_reset 0;
+  slink = serial_front_reset 0;
   wdt = watchdog_front_start;
 }
 

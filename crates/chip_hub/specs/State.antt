@@ -13,13 +13,14 @@ use Rattle.unit_fronts.specs.PwmFront.{PwmRegisters}
 use Rattle.unit_fronts.specs.WdtFront.{WatchdogRegisters}
 use Rattle.chip_hub.specs.Seat.{Seat}
 
--- the fronts of the units that are built
+-- the fronts of the units
 pub record Fronts : Type 0 where
   pub uart0 : SerialRegisters
   pub uart1 : SerialRegisters
   pub spi : SerialRegisters
   pub gpio : GpioRegisters
   pub pwm : PwmRegisters
+  pub slink : SerialRegisters
   pub wdt : WatchdogRegisters
 
 pub record HubState : Type 0 where

@@ -1,17 +1,17 @@
 -- A definition: an access to the registers of a unit: it reaches the unit's own front alone, and sends a message to that unit alone.
-use Rattle.std.specs.Prelude.{ℕ, List, Option, Some, None, Result, Ok, Err, count_by, is_some, map, set}
+use Rattle.std.specs.Prelude.{ℕ, List, Option, Some, None, Result, Ok, count_by, is_some, map, set}
 use Rattle.chip_base.specs.UnitTable.{all_units, link_place}
 use Rattle.chip_base.specs.declared.chip_unit.ChipUnit.{ChipUnit}
 use Rattle.chip_base.specs.declared.chip_unit.ChipUnit.TheVariants.{Uart0, Uart1, Spi, Gpio, Pwm, Slink, Wdt}
 use Rattle.chip_base.specs.declared.message.Down.{Down}
 use Rattle.chip_base.specs.declared.message.Down.TheVariants.{Reset}
 use Rattle.soc_bus.specs.declared.access.BusFault.{BusFault}
-use Rattle.soc_bus.specs.declared.access.BusFault.TheVariants.{Unmapped}
 use Rattle.soc_bus.specs.declared.access.Request.{Request}
 use Rattle.unit_fronts.specs.GpioFront.{GpioRegisters, gpio_word, gpio_stored, gpio_sent}
 use Rattle.unit_fronts.specs.SerialRegisters.{SerialRegisters}
 use Rattle.unit_fronts.specs.PwmFront.{PwmRegisters, pwm_word, pwm_stored, pwm_sent}
 use Rattle.unit_fronts.specs.SerialFront.{SerialKind, serial_word, serial_loaded, serial_stored, serial_sent}
+use Rattle.unit_fronts.specs.SlinkFront.{slink_kind}
 use Rattle.unit_fronts.specs.SpiFront.{spi_kind}
 use Rattle.unit_fronts.specs.UartFront.{uart_kind}
 use Rattle.unit_fronts.specs.WdtFront.{WatchdogRegisters, watchdog_word, watchdog_stored, watchdog_sent}
@@ -47,17 +47,17 @@ fronts_after f r Uart1 reg = record f { uart1 = (at_serial uart_kind f.uart1 r r
 fronts_after f r Spi reg = record f { spi = (at_serial spi_kind f.spi r reg r.store).front }
 fronts_after f r Gpio reg = record f { gpio = (at_gpio f.gpio r reg r.store).front }
 fronts_after f r Pwm reg = record f { pwm = (at_pwm f.pwm r reg r.store).front }
-fronts_after f r Slink reg = f
+fronts_after f r Slink reg = record f { slink = (at_serial slink_kind f.slink r reg r.store).front }
 fronts_after f r Wdt reg = record f { wdt = (at_watchdog f.wdt r reg r.store).front }
 
--- the answer to its master; the registers of a unit that isn't built answer no access
+-- the answer to its master
 abbrev pub unit_answer : Fronts → Request → ChipUnit → ℕ → Result ℕ BusFault
 unit_answer f r Uart0 reg = Ok (at_serial uart_kind f.uart0 r reg r.store).word
 unit_answer f r Uart1 reg = Ok (at_serial uart_kind f.uart1 r reg r.store).word
 unit_answer f r Spi reg = Ok (at_serial spi_kind f.spi r reg r.store).word
 unit_answer f r Gpio reg = Ok (at_gpio f.gpio r reg r.store).word
 unit_answer f r Pwm reg = Ok (at_pwm f.pwm r reg r.store).word
-unit_answer f r Slink reg = Err Unmapped
+unit_answer f r Slink reg = Ok (at_serial slink_kind f.slink r reg r.store).word
 unit_answer f r Wdt reg = Ok (at_watchdog f.wdt r reg r.store).word
 
 -- the message that goes down to the unit
@@ -67,7 +67,7 @@ unit_down f r Uart1 reg = (at_serial uart_kind f.uart1 r reg r.store).down
 unit_down f r Spi reg = (at_serial spi_kind f.spi r reg r.store).down
 unit_down f r Gpio reg = (at_gpio f.gpio r reg r.store).down
 unit_down f r Pwm reg = (at_pwm f.pwm r reg r.store).down
-unit_down f r Slink reg = None
+unit_down f r Slink reg = (at_serial slink_kind f.slink r reg r.store).down
 unit_down f r Wdt reg = (at_watchdog f.wdt r reg r.store).down
 
 -- no message for any of the seven units

@@ -11,7 +11,9 @@ ghost use Rattle.chip_hub.specs.Units.{messages_in, only_to, silent};
 
 use crate::complex::CoreComplex;
 use crate::parts::{offset_in, part_of_word};
-use crate::units::{AtFront, access_gpio, access_pwm, access_spi, access_uart, access_watchdog};
+use crate::units::{
+    AtFront, access_gpio, access_pwm, access_slink, access_spi, access_uart, access_watchdog,
+};
 use chip_base::bits::bit_if;
 use chip_base::{ChipUnit, Down, HubPart};
 use soc_bus::{BusFault, Region, Request, admit};
@@ -141,7 +143,7 @@ impl CoreComplex {
         }
     }
 
-    /// The bits of the units whose fronts are open, by the units' numbers. A unit that isn't built counts as open.
+    /// The bits of the units whose fronts are open, by the units' numbers.
     fn open_fronts(&self) -> u32
         ensures { result ≡ open_word self.now.fronts }
     {
@@ -150,7 +152,7 @@ impl CoreComplex {
             + open_bit(ChipUnit::Spi, self.spi.is_open())
             + open_bit(ChipUnit::Gpio, self.gpio.is_open())
             + open_bit(ChipUnit::Pwm, self.pwm.is_open())
-            + open_bit(ChipUnit::Slink, true)
+            + open_bit(ChipUnit::Slink, self.slink.is_open())
             + open_bit(ChipUnit::Wdt, self.wdt.is_open())
     }
 
@@ -190,7 +192,7 @@ impl CoreComplex {
             ChipUnit::Spi => at_unit(unit, access_spi(&mut self.spi, request, reg)),
             ChipUnit::Gpio => at_unit(unit, access_gpio(&mut self.gpio, request, reg)),
             ChipUnit::Pwm => at_unit(unit, access_pwm(&mut self.pwm, request, reg)),
-            ChipUnit::Slink => faulted(BusFault::Unmapped),
+            ChipUnit::Slink => at_unit(unit, access_slink(&mut self.slink, request, reg)),
             ChipUnit::Wdt => at_unit(unit, access_watchdog(&mut self.wdt, request, reg)),
         }
     }

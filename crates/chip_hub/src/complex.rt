@@ -4,7 +4,7 @@ use core_pair::{Clint, Core, Mailbox};
 use dma_unit::Dma;
 use soc_bus::{Arbiter, Memory};
 use std::marker::Model;
-use unit_fronts::{GpioFront, PwmFront, SpiFront, UartFront, WdtFront};
+use unit_fronts::{GpioFront, PwmFront, SlinkFront, SpiFront, UartFront, WdtFront};
 
 /// Two cores, the DMA, the memories, the bus and the fronts of the units: the hub without what sits in core 0's seat.
 #[derive(Drop)]
@@ -22,6 +22,7 @@ pub(crate) struct CoreComplex {
     pub(crate) spi: SpiFront,
     pub(crate) gpio: GpioFront,
     pub(crate) pwm: PwmFront,
+    pub(crate) slink: SlinkFront,
     pub(crate) wdt: WdtFront,
 }
 
@@ -39,6 +40,6 @@ impl Model for CoreComplex {
       dma = h.dma;
       clint = h.clint;
       mailbox = h.mailbox;
-      fronts = record { uart0 = h.uart0; uart1 = h.uart1; spi = h.spi; gpio = h.gpio; pwm = h.pwm; wdt = h.wdt };
+      fronts = record { uart0 = h.uart0; uart1 = h.uart1; spi = h.spi; gpio = h.gpio; pwm = h.pwm; slink = h.slink; wdt = h.wdt };
     } };
 }

@@ -13,7 +13,7 @@ use dma_unit::Dma;
 use image_tool::check;
 use soc_bus::{Arbiter, Memory};
 use std::alloc::Global;
-use unit_fronts::{GpioFront, PwmFront, SpiFront, UartFront, WdtFront};
+use unit_fronts::{GpioFront, PwmFront, SlinkFront, SpiFront, UartFront, WdtFront};
 
 /// The bytes of an image's header.
 const HEADER: usize = 12;
@@ -79,6 +79,7 @@ impl CoreComplex {
             spi: SpiFront::new(),
             gpio: GpioFront::new(),
             pwm: PwmFront::new(),
+            slink: SlinkFront::new(),
             wdt: WdtFront::new(),
         })
     }

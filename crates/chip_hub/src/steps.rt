@@ -36,6 +36,9 @@ impl CoreComplex {
         if let Some(up) = ups[ChipUnit::Pwm.place()] {
             self.pwm.arrive(up);
         }
+        if let Some(up) = ups[ChipUnit::Slink.place()] {
+            self.slink.arrive(up);
+        }
         if let Some(up) = ups[ChipUnit::Wdt.place()] {
             self.wdt.arrive(up);
         }
@@ -50,6 +53,7 @@ impl CoreComplex {
         self.spi.close();
         self.gpio.close();
         self.pwm.close();
+        self.slink.close();
         self.wdt.close();
     }
 
@@ -70,6 +74,7 @@ impl CoreComplex {
             + fast_bit(ChipUnit::Uart1.fast_line(), self.uart1.line())
             + fast_bit(ChipUnit::Spi.fast_line(), self.spi.line())
             + fast_bit(ChipUnit::Gpio.fast_line(), self.gpio.line())
+            + fast_bit(ChipUnit::Slink.fast_line(), self.slink.line())
     }
 
     /// What a read of mip gives to a hart.

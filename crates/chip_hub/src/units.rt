@@ -1,7 +1,8 @@
 //! Accesses to the registers of the units, at their fronts.
 ghost use Rattle.std.specs.Prelude.{◌≡◌, ◌⊎◌, ℕ, true};
 ghost use Rattle.chip_base.specs.UnitTable.{unit_has};
-ghost use Rattle.chip_base.specs.declared.chip_unit.ChipUnit.TheVariants.{Uart0, Spi, Gpio, Pwm, Wdt};
+ghost use Rattle.chip_base.specs.declared.chip_unit.ChipUnit.TheVariants.{Uart0, Spi, Gpio, Pwm, Slink, Wdt};
+ghost use Rattle.unit_fronts.specs.SlinkFront.{slink_kind};
 ghost use Rattle.unit_fronts.specs.SpiFront.{spi_kind};
 ghost use Rattle.unit_fronts.specs.UartFront.{uart_kind};
 ghost use Rattle.chip_hub.specs.Units.{at_gpio, at_pwm, at_serial, at_watchdog};
@@ -9,7 +10,7 @@ ghost use Rattle.chip_hub.specs.Units.{at_gpio, at_pwm, at_serial, at_watchdog};
 use crate::parts::part_of_word;
 use chip_base::Down;
 use soc_bus::Request;
-use unit_fronts::{GpioFront, PwmFront, SpiFront, UartFront, WdtFront};
+use unit_fronts::{GpioFront, PwmFront, SlinkFront, SpiFront, UartFront, WdtFront};
 
 /// What an access gives at a front: the word for its master, and the message for the unit.
 #[derive(Clone, Copy)]
@@ -78,6 +79,24 @@ pub(crate) fn access_pwm(front: &mut PwmFront, request: &Request, reg: u8) -> At
     ensures front { front.new ≡ (at_pwm front.old request.now reg request.now.store).front }
     ensures word { result.word ≡ (at_pwm front.old request.now reg request.now.store).word }
     ensures down { result.down ≡ (at_pwm front.old request.now reg request.now.store).down }
+{
+    match request.store {
+        None => AtFront {
+            word: part_of_word(request, front.load(reg)),
+            down: None,
+        },
+        Some(value) => AtFront {
+            word: 0,
+            down: front.store(reg, value),
+        },
+    }
+}
+
+pub(crate) fn access_slink(front: &mut SlinkFront, request: &Request, reg: u8) -> AtFront
+    requires { unit_has Slink reg ≡ true }
+    ensures front { front.new ≡ (at_serial slink_kind front.old request.now reg request.now.store).front }
+    ensures word { result.word ≡ (at_serial slink_kind front.old request.now reg request.now.store).word }
+    ensures down { result.down ≡ (at_serial slink_kind front.old request.now reg request.now.store).down }
 {
     match request.store {
         None => AtFront {

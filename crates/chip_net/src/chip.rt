@@ -1,5 +1,5 @@
 //! The chip.
-ghost use Rattle.std.specs.Prelude.{◌≡◌, ℕ, ◌<◌, ◌≤◌, ◌+◌, ◌++◌, ◌^◌, suc, true, [], length, List, IfOk, OnOk, IfSome, slice_range, option_to_list};
+ghost use Rattle.std.specs.Prelude.{◌≡◌, ℕ, option_map, ◌<◌, ◌≤◌, ◌+◌, ◌++◌, ◌^◌, suc, true, [], length, List, IfOk, OnOk, IfSome, slice_range, option_to_list};
 ghost use Rattle.std.specs.Int.{w32, to_le_bytes};
 ghost use Rattle.chip_base.specs.Settings.{values_of};
 ghost use Rattle.chip_hub.specs.Start.{fits_in};
@@ -10,25 +10,50 @@ ghost use Rattle.spi_flash.specs.Flash.{byte_of, flash_at};
 ghost use Rattle.chip_whole.specs.Standing.{ChipStands};
 
 use crate::units::Units;
+use bench_parts::Part;
 use chip_base::{Boot, BootView, Cycle, Event, Groups, HartView, NoMemory, Script, Setup, Steps};
 use chip_hub::Hub;
 use chip_whole::Standing;
 use std::alloc::Global;
 use std::sync::ledger::Ledger;
 use std::thread::Threads;
+use stream_link::{Stream, StreamStanding};
 
 /// The chip: the hub, its units, and the links between them.
 ///
 /// It keeps the events of its last run. In contracts it stands for a chip of the definition.
-#[derive(Drop)]
 pub struct Chip {
     hub: Hub,
     units: Units,
+    stream: Stream,
     events: Vec<Event>,
 }
 
+/// Written out, so that a function that drops a chip has one call in its proof, and not the parts of each unit.
+impl Drop for Chip {
+    fn drop(self) {
+        let Chip {
+            hub: _,
+            units: _,
+            stream: _,
+            events: _,
+        } = self;
+    }
+}
+
 impl Standing for Chip {
-    ghost stands = { λ board c s. ChipStands board (record { hub = c.hub.hub; seat = c.hub.seat; units = c.units.units; cycle = c.units.cycle }) s };
+    ghost use Rattle.stream_link.specs.Standing.{BehavesAfter, StreamStands};
+
+    type Held = Box<dyn Part + Send>;
+
+    ghost stands = { λ board c s. ChipStands (StreamStands (BehavesAfter board.part (option_map (λ b. (Part-box b).behave b.value) c.stream.part)) c.stream.queue) (record {
+      hub = c.hub.hub;
+      seat = c.hub.seat;
+      units = c.units.units;
+      down = c.units.down;
+      up = c.units.up;
+      cycle = c.units.cycle;
+    }) s };
 
     ghost now = { λ c. c.units.cycle };
 
@@ -59,17 +84,20 @@ fn keep_all(events: &mut Vec<Event>, told: &[Option<Event>]) -> Result<(), NoMem
 
 impl Chip {
     /// The chip at power-on, where core 0 begins in a boot mode with the file, which must fit, as `fits` of chip_hub tells. A script's
-    /// `image` step sends the file's bytes in each boot mode. The lanes run together, whatever their groups.
+    /// `image` step sends the file's bytes in each boot mode. The stream link is fitted with the part, if there is one. The lanes run
+    /// together, whatever their groups.
     pub fn new(
         alloc: Global,
         setup: &Setup,
         boot: Boot,
         image: Vec<u8>,
         script: Script,
+        part: Option<Box<dyn Part + Send>>,
         groups: &Groups,
     ) -> Result<Chip, NoMemory>
         requires { fits_in boot image.items setup.now.imem ≡ true }
-        ensures chip { IfOk result (λ chip. (board : Board) → ⟦<Chip as Standing>⟧.stands board chip (start (values_of setup.now) boot image.items script)) }
+        ensures chip { IfOk result (λ chip. ⟦<Chip as Standing>⟧.stands (record { part = option_map (λ b. behave b) part }) chip
+            (start (values_of setup.now) boot image.items script)) }
         ensures now { IfOk result (λ chip. ⟦<Chip as Standing>⟧.now chip ≡ 0) }
         ensures told { IfOk result (λ chip. ⟦<Chip as Standing>⟧.told chip ≡ []) }
     {
@@ -78,21 +106,24 @@ impl Chip {
         Ok(Chip {
             hub,
             units,
+            stream: Stream::new(part),
             events: Vec::new(alloc),
         })
     }
 
     /// One cycle: the hub and each unit from the state before it. Gives what happened at the chip's edge.
-    fn step(&mut self) -> [Option<Event>; 5]
+    fn step(&mut self) -> [Option<Event>; 6]
         requires { ⟦<Chip as Standing>⟧.now self.old + 4096 < 2 ^ 64 }
         ensures state { (board : Board) (s : ChipState) → ⟦<Chip as Standing>⟧.stands board self.old s → ⟦<Chip as Standing>⟧.stands board self.new (tick board s) }
         ensures told { (board : Board) (s : ChipState) → ⟦<Chip as Standing>⟧.stands board self.old s → (tick board s).events ≡ s.events ++ events_of result }
         ensures now { ⟦<Chip as Standing>⟧.now self.new ≡ ⟦<Chip as Standing>⟧.now self.old + 1 }
         ensures kept { self.new.events ≡ self.old.events }
     {
+        let now = self.units.now();
         let ups = self.units.arriving();
-        let downs = self.hub.cycle(self.units.now(), &ups);
-        self.units.cycle(&downs)
+        let downs = self.hub.cycle(now, &ups);
+        let stream = self.stream.cycle(now, self.units.at_stream_link());
+        self.units.cycle(&downs, stream)
     }
 }
 

@@ -1,18 +1,22 @@
 //! The units and their links.
-ghost use Rattle.std.specs.Prelude.{◌≡◌, ◌≤◌, ◌<◌, ◌+◌, ◌^◌, ℕ, suc, length, List, IfOk};
+ghost use Rattle.std.specs.Prelude.{◌≡◌, ◌≤◌, ◌<◌, ◌+◌, ◌^◌, ℕ, suc, length, List, IfOk, None, get_or};
 ghost use Rattle.std.specs.List.{list_any};
 ghost use Rattle.chip_base.specs.Settings.{values_of};
 ghost use Rattle.spi_flash.specs.Flash.{byte_of, flash_at};
 ghost use Rattle.chip_base.specs.UnitTable.{link_place, unit_row};
+ghost use Rattle.chip_base.specs.declared.chip_unit.ChipUnit.TheVariants.{Slink};
+ghost use Rattle.delay_line.specs.Queue.{empty_link};
+ghost use Rattle.soc_words.specs.Link.{link_first, link_moved};
 ghost use Rattle.chip_net.specs.Lanes.{joined_of};
-ghost use Rattle.chip_whole.specs.Chip.{Board, arriving, delay_of, image_for, is_image, told_by_units, units_after, units_start};
+ghost use Rattle.chip_whole.specs.Chip.{arriving, delay_of, image_for, is_image, told_by_units, units_after, units_start};
 ghost use Rattle.chip_whole.specs.Joined.{joined_start};
 ghost use Rattle.uart_lane.specs.State.{uart_start};
 
 use crate::lanes::{Lane, joined, step_gpio, step_pwm, step_spi, step_uart, step_watchdog};
+use crate::links::Links;
 use board_units::{Gpio, Pwm, Watchdog};
 use chip_base::{
-    Bytes, ChipUnit, Cycle, Down, Event, NoMemory, Script, Setup, Steps0, UartStep, Up,
+    Bytes, ChipUnit, Cycle, Down, Event, NoMemory, Script, Setup, Steps0, UartStep, UnitOut, Up,
 };
 use spi_flash::Spi;
 use spi_flash::array::SIZE;
@@ -20,7 +24,7 @@ use std::alloc::Global;
 use std::marker::Model;
 use uart_lane::Uart;
 
-/// The units that are built, each with its links to the hub.
+/// The units, each with its links to the hub; of the stream link only its links.
 #[derive(Drop)]
 pub(crate) struct Units {
     uart0: Lane<Uart>,
@@ -29,6 +33,7 @@ pub(crate) struct Units {
     gpio: Lane<Gpio>,
     pwm: Lane<Pwm>,
     wdt: Lane<Watchdog>,
+    slink: Links,
     cycle: Cycle,
 }
 
@@ -48,11 +53,13 @@ impl Model for Units {
         pwm = joined_of u.pwm.unit u.pwm.links;
         wdt = joined_of u.wdt.unit u.wdt.links;
       };
+      down = u.slink.down;
+      up = u.slink.up;
       cycle = u.cycle;
     } };
 
     ghost invariant = { λ u. (u.uart0.links.cycle ≡ u.cycle) × (u.uart1.links.cycle ≡ u.cycle) × (u.spi.links.cycle ≡ u.cycle) × (u.gpio.links.cycle ≡ u.cycle)
-        × (u.pwm.links.cycle ≡ u.cycle) × (u.wdt.links.cycle ≡ u.cycle) };
+        × (u.pwm.links.cycle ≡ u.cycle) × (u.wdt.links.cycle ≡ u.cycle) × (u.slink.cycle ≡ u.cycle) };
 }
 
 /// Whether a step sends the bytes of the image file.
@@ -106,7 +113,12 @@ impl Units {
         image: &[u8],
         script: Script,
     ) -> Result<Units, NoMemory>
-        ensures { IfOk result (λ u. u ≡ record { units = units_start (values_of setup.now) image.now script; cycle = 0 }) }
+        ensures { IfOk result (λ u. u ≡ record {
+          units = units_start (values_of setup.now) image.now script;
+          down = empty_link (delay_of (values_of setup.now) (link_place Slink));
+          up = empty_link (delay_of (values_of setup.now) (link_place Slink));
+          cycle = 0;
+        }) }
     {
         let uart0 = joined_uart(alloc, setup, ChipUnit::Uart0, script.uart0, image)?;
         let uart1 = joined_uart(alloc, setup, ChipUnit::Uart1, script.uart1, image)?;
@@ -114,6 +126,7 @@ impl Units {
         let gpio = joined(alloc, setup, ChipUnit::Gpio, Gpio::new(script.pins))?;
         let pwm = joined(alloc, setup, ChipUnit::Pwm, Pwm::new())?;
         let wdt = joined(alloc, setup, ChipUnit::Wdt, Watchdog::new())?;
+        let slink = Links::new(alloc, setup, ChipUnit::Slink.place())?;
         Ok(Units {
             uart0,
             uart1,
@@ -121,6 +134,7 @@ impl Units {
             gpio,
             pwm,
             wdt,
+            slink,
             cycle: 0,
         })
     }
@@ -134,7 +148,7 @@ impl Units {
 
     /// What arrives at the hub in this cycle, by unit.
     pub(crate) fn arriving(&self) -> [Option<Up>; 7]
-        ensures { result ≡ arriving self.now.units }
+        ensures { result ≡ arriving self.now.units (link_first self.now.up) }
     {
         [
             self.uart0.links.at_front(),
@@ -142,16 +156,27 @@ impl Units {
             self.spi.links.at_front(),
             self.gpio.links.at_front(),
             self.pwm.links.at_front(),
-            None,
+            self.slink.at_front(),
             self.wdt.links.at_front(),
         ]
     }
 
-    /// One cycle of each unit, in which the hub sent these messages; and what happened at the chip's edge in it, by unit.
-    pub(crate) fn cycle(&mut self, downs: &[Option<Down>; 7]) -> [Option<Event>; 5]
+    /// The message that arrives at the stream link in this cycle.
+    #[inline(always)]
+    pub(crate) fn at_stream_link(&self) -> Option<Down>
+        ensures { result ≡ link_first self.now.down }
+    {
+        self.slink.at_unit()
+    }
+
+    /// One cycle of each unit, in which the hub sent these messages, and this left the stream link; and what happened at the chip's
+    /// edge in it, by unit.
+    pub(crate) fn cycle(&mut self, downs: &[Option<Down>; 7], stream: UnitOut) -> [Option<Event>; 6]
         requires { self.old.cycle + 4096 < 2 ^ 64 }
-        ensures units { (board : Board) → self.new.units ≡ units_after board self.old.units self.old.cycle downs.now }
-        ensures told { (board : Board) → result ≡ told_by_units board self.old.units self.old.cycle }
+        ensures units { self.new.units ≡ units_after self.old.units self.old.cycle downs.now }
+        ensures down { self.new.down ≡ link_moved self.old.down (get_or downs.now (link_place Slink) None) }
+        ensures up { self.new.up ≡ link_moved self.old.up stream.up }
+        ensures told { result ≡ told_by_units self.old.units self.old.cycle stream.event }
         ensures cycle { self.new.cycle ≡ suc self.old.cycle }
     {
         let now = self.cycle;
@@ -161,8 +186,9 @@ impl Units {
         let gpio = step_gpio(&mut self.gpio, now, downs[ChipUnit::Gpio.place()]);
         let pwm = step_pwm(&mut self.pwm, now, downs[ChipUnit::Pwm.place()]);
         let wdt = step_watchdog(&mut self.wdt, now, downs[ChipUnit::Wdt.place()]);
+        self.slink.step(downs[ChipUnit::Slink.place()], stream.up);
         self.cycle += 1;
-        [uart0, uart1, gpio, pwm, wdt]
+        [uart0, uart1, gpio, pwm, stream.event, wdt]
     }
 
     /// The byte of the flash at an address. None exactly where no flash is fitted or the address is past its end.

@@ -1,6 +1,7 @@
 //! Short programs, with the cycles that the delays and the units give.
 ghost use Rattle.std.specs.Prelude.{◌≡◌, ◌≤◌, ◌<◌, ◌+◌, ◌^◌, length, IfOk, OnOk};
 
+use bench_parts::{Counter, Part, Scramble};
 use chip_base::{
     Boot, BootView, Event, EventKind, Groups, NoMemory, PhaseWord, Pins, Script, Setup, Steps,
     Steps0,
@@ -24,8 +25,23 @@ const WATCHED: [u8; 16] = [
     0xb7, 0x00, 0xfb, 0xff, 0x13, 0x01, 0x10, 0x10, 0x23, 0xa0, 0x20, 0x00, 0x6f, 0x00, 0x00, 0x00,
 ];
 
-/// The chip of the standard settings, with the program from address 0 on.
-fn chip(rt: &HostRuntime, program: &[u8]) -> Result<Chip, Fail>
+/// lui x1, 0xffec0; addi x2, x0, 1; sw x2, 0(x1); addi x2, x0, 0x41; sw x2, 4(x1); lw x3, 4(x1); beq x3, x0, -4; jal x0, 0
+const LINKED: [u8; 32] = [
+    0xb7, 0x00, 0xec, 0xff, 0x13, 0x01, 0x10, 0x00, 0x23, 0xa0, 0x20, 0x00, 0x13, 0x01, 0x10, 0x04,
+    0x23, 0xa2, 0x20, 0x00, 0x83, 0xa1, 0x40, 0x00, 0xe3, 0x8e, 0x01, 0xfe, 0x6f, 0x00, 0x00, 0x00,
+];
+
+/// lui x1, 0xffec0; lui x3, 0xfffb0; addi x2, x0, 1; mul x5, x2, x2; lw x6, 8(x3); slli x6, x6, 2; add x7, x1, x6; sw x2, 0(x1);
+/// sw x2, 4(x7); sw x0, 0(x1); sw x2, 4(x1); sw x2, 4(x1); addi x4, x0, 0x101; sw x4, 0(x3); lw x8, 4(x1); jal x0, 0
+const LINKED_AND_WATCHED: [u8; 64] = [
+    0xb7, 0x00, 0xec, 0xff, 0xb7, 0x01, 0xfb, 0xff, 0x13, 0x01, 0x10, 0x00, 0xb3, 0x02, 0x21, 0x02,
+    0x03, 0xa3, 0x81, 0x00, 0x13, 0x13, 0x23, 0x00, 0xb3, 0x83, 0x60, 0x00, 0x23, 0xa0, 0x20, 0x00,
+    0x23, 0xa2, 0x23, 0x00, 0x23, 0xa0, 0x00, 0x00, 0x23, 0xa2, 0x20, 0x00, 0x23, 0xa2, 0x20, 0x00,
+    0x13, 0x02, 0x10, 0x10, 0x23, 0xa0, 0x41, 0x00, 0x03, 0xa4, 0x40, 0x00, 0x6f, 0x00, 0x00, 0x00,
+];
+
+/// The chip of the standard settings, with the program from address 0 on, and a part on its stream link, if there is one.
+fn chip(rt: &HostRuntime, program: &[u8], part: Option<Box<dyn Part + Send>>) -> Result<Chip, Fail>
     requires { length program.now ≤ 64 }
     ensures { IfOk result (λ chip. ⟦<Chip as Standing>⟧.now chip ≡ 0) }
 {
@@ -37,7 +53,8 @@ fn chip(rt: &HostRuntime, program: &[u8]) -> Result<Chip, Fail>
         uart1: Steps0::from_vec(Vec::new(alloc)).unwrap(),
     };
     let groups = Groups { of: [0; 8] };
-    Ok(Chip::new(alloc, &Setup::standard(), Boot::Raw, image, script, &groups)?)
+    let setup = Setup::standard();
+    Ok(Chip::new(alloc, &setup, Boot::Raw, image, script, part, &groups)?)
 }
 
 /// Runs the chip, with a counter of rounds over a blank ledger.
@@ -88,7 +105,7 @@ fn sees_byte<R: Abort + Threads + Sync>(rt: &R, chip: &mut Chip) -> Result<(), F
 
 #[test]
 fn byte_in_time(rt: HostRuntime) -> Result<(), Fail> {
-    let mut chip = chip(&rt, &PROGRAM)?;
+    let mut chip = chip(&rt, &PROGRAM, None)?;
     sees_byte(&rt, &mut chip)
 }
 
@@ -116,7 +133,7 @@ fn sees_views<R: Abort + Threads + Sync>(rt: &R, chip: &mut Chip) -> Result<(), 
 
 #[test]
 fn views(rt: HostRuntime) -> Result<(), Fail> {
-    let mut chip = chip(&rt, &PROGRAM)?;
+    let mut chip = chip(&rt, &PROGRAM, None)?;
     sees_views(&rt, &mut chip)
 }
 
@@ -145,6 +162,92 @@ fn sees_fire<R: Abort + Threads + Sync>(rt: &R, chip: &mut Chip) -> Result<(), F
 
 #[test]
 fn fires_in_time(rt: HostRuntime) -> Result<(), Fail> {
-    let mut chip = chip(&rt, &WATCHED)?;
+    let mut chip = chip(&rt, &WATCHED, None)?;
     sees_fire(&rt, &mut chip)
+}
+
+/// The word is stored in cycle 11 and comes to the stream link in cycle 19, which passes it at once. The reply comes to the hub in
+/// cycle 27.
+fn sees_reply<R: Abort + Threads + Sync>(rt: &R, chip: &mut Chip) -> Result<(), Fail>
+    requires { ⟦<Chip as Standing>⟧.now chip.old ≡ 0 }
+{
+    let wanted = Event {
+        cycle: 19,
+        unit: 6,
+        kind: EventKind::Word,
+        value: 0x41,
+    };
+    run(rt, chip, 27)?;
+    assert_eq!(rt; chip.events(), [wanted].as_slice());
+    assert_eq!(rt; chip.hart(0).regs[3], 0);
+    run(rt, chip, 10)?;
+    assert_eq!(rt; chip.hart(0).regs[3], 0x5a5a_7ada);
+    Ok(())
+}
+
+#[test]
+fn part_replies(rt: HostRuntime) -> Result<(), Fail> {
+    let part = Box::new(rt.alloc(), Scramble::new())?;
+    let mut chip = chip(&rt, &LINKED, Some(part))?;
+    sees_reply(&rt, &mut chip)
+}
+
+/// Without a part no reply comes.
+fn sees_none<R: Abort + Threads + Sync>(rt: &R, chip: &mut Chip) -> Result<(), Fail>
+    requires { ⟦<Chip as Standing>⟧.now chip.old ≡ 0 }
+{
+    run(rt, chip, 200)?;
+    assert_eq!(rt; chip.events().len(), 1);
+    assert_eq!(rt; chip.hart(0).regs[3], 0);
+    Ok(())
+}
+
+#[test]
+fn none_replies(rt: HostRuntime) -> Result<(), Fail> {
+    let mut chip = chip(&rt, &LINKED, None)?;
+    sees_none(&rt, &mut chip)
+}
+
+/// The link passes a word in cycle 67, is disabled in cycle 72, and two words wait when the watchdog's Fire arrives in cycle 464. They are
+/// lost, and the part counts on: the next word that it is called with, in cycle 532, is the second one, and the last of a packet.
+fn counts_over_a_fire<R: Abort + Threads + Sync>(rt: &R, chip: &mut Chip) -> Result<(), Fail>
+    requires { ⟦<Chip as Standing>⟧.now chip.old ≡ 0 }
+{
+    let word = Event {
+        cycle: 67,
+        unit: 6,
+        kind: EventKind::Word,
+        value: 1,
+    };
+    let fire = Event {
+        cycle: 400,
+        unit: 7,
+        kind: EventKind::Fire,
+        value: 0,
+    };
+    let last = Event {
+        cycle: 532,
+        unit: 6,
+        kind: EventKind::Last,
+        value: 1,
+    };
+    run(rt, chip, 464)?;
+    assert_eq!(rt; chip.events(), [word, fire].as_slice());
+    assert_eq!(rt; chip.hart(0).pc, 0x3c);
+    assert_eq!(rt; chip.hart(0).regs[8], 0);
+    run(rt, chip, 87)?;
+    assert_eq!(rt; chip.events(), [last].as_slice());
+    assert_eq!(rt; chip.hart(0).regs[8], 0);
+    run(rt, chip, 1)?;
+    assert_eq!(rt; chip.hart(0).regs[8], 2);
+    run(rt, chip, 1000)?;
+    assert!(rt; chip.events().is_empty());
+    Ok(())
+}
+
+#[test]
+fn part_counts_over_a_fire(rt: HostRuntime) -> Result<(), Fail> {
+    let part = Box::new(rt.alloc(), Counter::new())?;
+    let mut chip = chip(&rt, &LINKED_AND_WATCHED, Some(part))?;
+    counts_over_a_fire(&rt, &mut chip)
 }

@@ -39,6 +39,12 @@ const PIN_INTERRUPT: [u8; 16] = [
     0xb7, 0x00, 0xfc, 0xff, 0x13, 0x01, 0x10, 0x00, 0x23, 0xa4, 0x20, 0x00, 0x6f, 0x00, 0x00, 0x00,
 ];
 
+/// lui x1, 0xffec0; lui x2, 0x400; sw x2, 0(x1); lw x3, 4(x1); jal x0, 0
+const REPLY_INTERRUPT: [u8; 20] = [
+    0xb7, 0x00, 0xec, 0xff, 0x37, 0x01, 0x40, 0x00, 0x23, 0xa0, 0x20, 0x00, 0x83, 0xa1, 0x40, 0x00,
+    0x6f, 0x00, 0x00, 0x00,
+];
+
 /// lui x1, 0xfffe0; lw x2, 12(x1); jal x0, -4
 const LOAD_OPEN: [u8; 12] = [
     0xb7, 0x00, 0xfe, 0xff, 0x03, 0xa1, 0xc0, 0x00, 0x6f, 0xf0, 0xdf, 0xff,
@@ -161,8 +167,39 @@ fn raises_the_line_of_the_pins(rt: HostRuntime) {
     assert!(&rt; hub.csr(1, 0x344) == Some(0x0010_0000));
 }
 
+/// A reply raises fast line 6 for both harts, from the store that enables the interrupt to the load that takes the reply.
+#[test]
+fn raises_the_line_of_the_stream_link(rt: HostRuntime) {
+    let hub = Hub::new(rt.alloc(), &Setup::standard(), Boot::Raw, &REPLY_INTERRUPT);
+    let Ok(mut hub) = hub else {
+        panic!(&rt; "the hub was refused");
+    };
+    let mut ups = [None; 7];
+    ups[5] = Some(word_up(0x8000_0041));
+    hub.cycle(0, &ups);
+    for now in 1..4 {
+        hub.cycle(now, &[None; 7]);
+    }
+    assert!(&rt; hub.csr(0, 0x344) == Some(0));
+    let downs = hub.cycle(4, &[None; 7]);
+    let set = Down::Set {
+        reg: 0,
+        word: 0x0040_0000,
+    };
+    assert!(&rt; downs[5] == Some(set));
+    for now in 5..9 {
+        assert!(&rt; hub.csr(0, 0x344) == Some(0x0040_0000));
+        assert!(&rt; hub.csr(1, 0x344) == Some(0x0040_0000));
+        hub.cycle(now, &[None; 7]);
+    }
+    hub.cycle(9, &[None; 7]);
+    assert!(&rt; hub.hart(0).regs[3] == 0x8000_0041);
+    assert!(&rt; hub.csr(0, 0x344) == Some(0));
+    assert!(&rt; hub.csr(1, 0x344) == Some(0));
+}
+
 /// Each Fire closes all fronts. Of two answers that uart0's front waits for, one comes with the second Fire, so after one more from each
-/// unit it alone is open, beside the unit that isn't built.
+/// unit it alone is open.
 #[test]
 fn hears_answers_with_a_fire(rt: HostRuntime) {
     let hub = Hub::new(rt.alloc(), &Setup::standard(), Boot::Raw, &LOAD_OPEN);
@@ -187,7 +224,7 @@ fn hears_answers_with_a_fire(rt: HostRuntime) {
         };
         assert!(&rt; downs[0] == sent && downs[6] == sent);
     }
-    assert!(&rt; hub.hart(0).regs[2] == 0x42);
+    assert!(&rt; hub.hart(0).regs[2] == 0x2);
 }
 
 /// The image of the payload addi x1, x0, 5; jal x0, 0.

@@ -1,6 +1,7 @@
 -- The events of a cycle, and of all cycles.
-use Rattle.std.proofs.Common.{◌≡◌, ◌≤◌, ◌<◌, ℕ, suc, ◌⊎◌, inl, inr, Bool, true, false, eqb, ltb, length, List, [], ◌∷◌, ◌++◌, Option, None, Some, refl, subst, sym, ◌∙◌, arith, append-nil, append_assoc}
-use Rattle.std.specs.Prelude.{option_to_list}
+use Rattle.std.proofs.Common.{◌≡◌, ◌≤◌, ◌<◌, ℕ, suc, ◌⊎◌, inl, inr, Bool, true, false, eqb, ltb, length, List, [], ◌∷◌, ◌++◌, Option, None, Some, refl, ap, subst, sym, ◌∙◌, arith, append-nil, append_assoc}
+use Rattle.std.specs.Prelude.{if◌then◌else◌, option_to_list}
+use Rattle.bench_parts.specs.Behave.{Behaviour}
 use Rattle.board_units.specs.GpioCycle.{gpio_cycle, outputs_after}
 use Rattle.board_units.specs.GpioState.{GpioState}
 use Rattle.board_units.specs.Messages.{change_event}
@@ -16,8 +17,12 @@ use Rattle.chip_base.specs.declared.message.Down.TheVariants.{Reset, Set}
 use Rattle.chip_base.specs.declared.message.Up.{Up}
 use Rattle.chip_base.specs.Given.{Given}
 use Rattle.chip_base.specs.Messages.{fire_in}
+use Rattle.stream_link.specs.StreamCycle.{next_word, passing, set_in as stream_set, stream_cycle}
+use Rattle.stream_link.specs.StreamState.{StreamState}
+use Rattle.stream_link.specs.declared.word.StreamWord.{StreamWord}
 use Rattle.uart_lane.specs.Cycle.{begun, frame_sent, may_begin, queued, received, sent, set_in, uart_cycle}
 use Rattle.uart_lane.specs.State.{UartState}
+use Rattle.chip_whole.specs.Asked.{events_at}
 use Rattle.chip_whole.specs.Chip.{events_of}
 use Rattle.chip_whole.specs.Order.{AreOrdered, AreOrderedBefore, ArePast, Precedes}
 
@@ -117,6 +122,36 @@ are_past now events h = record { order = h.order; past = all_past events h.befor
     all_past [] b = tt
     all_past (e ∷ rest) b = (past e b.0, all_past rest b.1)
 
+-- the events of one unit
+
+pub at_more : (unit : ℕ) (a b : List Event) → events_at unit (a ++ b) ≡ events_at unit a ++ events_at unit b
+at_more unit [] b = refl
+at_more unit (e ∷ rest) b =
+    ap (λ later. (if eqb e.unit unit then e ∷ [] else []) ++ later) (at_more unit rest b)
+    ∙ sym (append_assoc (if eqb e.unit unit then e ∷ [] else []) (events_at unit rest) (events_at unit b))
+
+-- what the units of these numbers told in a cycle, as far as it is of one of them
+abbrev pub told_among : ℕ → List ℕ → List (Option Event) → List Event
+told_among unit [] told = []
+told_among unit (n ∷ ns) [] = []
+told_among unit (n ∷ ns) (e ∷ es) = (if eqb n unit then option_to_list e else []) ++ told_among unit ns es
+
+at_one : (unit n now : ℕ) (e : Option Event) (same : Bool) → eqb n unit ≡ same → ToldAt n now e
+    → events_at unit (option_to_list e) ≡ (if eqb n unit then option_to_list e else [])
+at_one unit n now None true s t = rw s refl
+at_one unit n now None false s t = rw s refl
+at_one unit n now (Some e) same s t = let here : eqb e.unit unit ≡ eqb n unit = ap (λ u. eqb u unit) t.1 in rw here (append-nil _)
+
+-- the events of a cycle that are of this unit
+pub at_each : (unit now : ℕ) (numbers : List ℕ) (told : List (Option Event)) → AllTold now numbers told
+    → events_at unit (events_of told) ≡ told_among unit numbers told
+at_each unit now [] [] t = refl
+at_each unit now [] (e ∷ es) t = absurd t
+at_each unit now (n ∷ ns) [] t = absurd t
+at_each unit now (n ∷ ns) (e ∷ es) t =
+    at_more unit (option_to_list e) (events_of es) ∙ ap (λ first. first ++ events_at unit (events_of es)) (at_one unit n now e _ refl t.0)
+    ∙ ap (λ later. (if eqb n unit then option_to_list e else []) ++ later) (at_each unit now ns es t.1)
+
 -- what a cycle of a UART tells
 
 -- its number stays, and its event is of its number and of this cycle
@@ -168,7 +203,7 @@ uart_tells s now None = same_number s s now refl
 uart_tells s now (Some Reset) = record { number = refl; event = tt }
 uart_tells s now (Some (Set reg word)) = same_number s (set_in s reg word) now (set_number_by s reg word _ _ refl refl)
 
--- what the units of the pins, of pulse-width modulation and of the watchdog tell
+-- what the units of the pins, of pulse-width modulation, of the stream link and of the watchdog tell
 
 change_tells : (now unit before after : ℕ) (same : Bool) → eqb before after ≡ same → ToldAt unit now (change_event now unit before after)
 change_tells now unit before after true e = rw e tt
@@ -183,6 +218,17 @@ unfolding pwm_cycle
 pwm_tells s now None = change_tells now 5 s.mask (outputs_of s) _ refl
 pwm_tells s now (Some Reset) = change_tells now 5 s.mask 0 _ refl
 pwm_tells s now (Some (Set reg word)) = change_tells now 5 (pwm_set s reg word).mask (outputs_of (pwm_set s reg word)) _ refl
+
+passing_tells : (part : Option Behaviour) (s : StreamState) (now : ℕ) (word : Option StreamWord) → ToldAt 6 now (passing part s now word).event
+passing_tells part s now None = tt
+passing_tells part s now (Some word) = (refl, refl)
+
+pub stream_tells : (part : Option Behaviour) (s : StreamState) (now : ℕ) (down : Option Down) → ToldAt 6 now (stream_cycle part s now down).event
+unfolding stream_cycle
+stream_tells part s now None = passing_tells part s now (next_word s.queue)
+stream_tells part s now (Some Reset) = tt
+stream_tells part s now (Some (Set reg word)) =
+    passing_tells part (record s { queue = stream_set s.queue reg word }) now (next_word (stream_set s.queue reg word))
 
 fire_or_not : (up : Option Up) → (fire_in up ≡ 0) ⊎ (fire_in up ≡ 1)
 fire_or_not None = inl refl

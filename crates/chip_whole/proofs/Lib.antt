@@ -7,3 +7,4 @@ pub mod Next
 pub mod Runs
 pub mod Sent
 pub mod Keeping
+pub mod Words

@@ -2,7 +2,9 @@
 use Rattle.std.proofs.Common.{◌≡◌, ℕ, zero, suc, ◌+◌, List, [], ◌++◌, length, drop, sym, ap, ◌∙◌, append_assoc, append-nil}
 use Rattle.std.proofs.Math.Seq.{drop-append_seam}
 use Rattle.chip_base.specs.declared.event.Event.{Event}
+use Rattle.stream_link.specs.StreamCycle.{stream_cycle}
 use Rattle.chip_whole.specs.Chip.{Board, ChipState, after, events_of, tick, told_by_units}
+use Rattle.chip_whole.specs.Joined.{event_of}
 use Rattle.chip_whole.specs.Next.{next_events}
 use Rattle.chip_whole.proofs.Runs.{after_sum}
 
@@ -12,7 +14,8 @@ unfolding after tick
 goes_on board s zero = ([], sym (append-nil s.events))
 goes_on board s (suc n) =
     let so_far = goes_on board s n in
-    let here : List Event = events_of (told_by_units board (after board s n).units (after board s n).cycle) in
+    let c = after board s n in
+    let here : List Event = events_of (told_by_units c.units c.cycle (event_of (stream_cycle board.part) c.slink c.cycle)) in
     (so_far.0 ++ here, ap (λ e. e ++ here) so_far.1 ∙ append_assoc s.events so_far.0 here)
 
 -- what stands behind the events before

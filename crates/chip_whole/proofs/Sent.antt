@@ -1,7 +1,6 @@
 -- Bytes on their way to a UART, in it and sent, in their order.
-use Rattle.std.proofs.Common.{◌≡◌, ◌≤◌, ℕ, zero, suc, Bool, true, false, eqb, List, [], ◌∷◌, ◌++◌, length, map, Option, None, Some, refl, ap, subst, sym, ◌∙◌, arith, append_assoc, append-nil}
+use Rattle.std.proofs.Common.{◌≡◌, ◌≤◌, ℕ, zero, suc, Bool, true, false, eqb, List, [], ◌∷◌, ◌++◌, length, map, Option, None, Some, refl, ap, sym, ◌∙◌, arith, append_assoc, append-nil}
 use Rattle.std.specs.Prelude.{option_to_list, if◌then◌else◌}
-use Rattle.std.proofs.lemmas.Bool.Decides.{nat_tests}
 use Rattle.std.proofs.lemmas.List.{map-append}
 use Rattle.chip_base.specs.Messages.{reset_in}
 use Rattle.chip_base.specs.declared.event.Event.{Event}
@@ -13,11 +12,11 @@ use Rattle.soc_words.specs.Link.{link_first, link_moved}
 use Rattle.uart_lane.specs.Counts.{bytes_in, bytes_out}
 use Rattle.uart_lane.specs.Cycle.{uart_cycle}
 use Rattle.uart_lane.specs.State.{UartState}
-use Rattle.chip_whole.specs.Chip.{events_of}
+use Rattle.chip_whole.specs.Asked.{events_at}
 use Rattle.chip_whole.specs.Credits.{UartLosesNone}
 use Rattle.chip_whole.specs.Joined.{Joined, event_of, joined_after}
 use Rattle.chip_whole.specs.Sent.{Fate, Lost, Went, byte_in, bytes_on, fates_in, lost_by, told_by, went}
-use Rattle.chip_whole.proofs.Events.{AllTold, ToldAt}
+use Rattle.chip_whole.proofs.Events.{at_more}
 
 bytes_more : (line : List (Option Down)) (d : Option Down) → bytes_on (line ++ d ∷ []) ≡ bytes_on line ++ bytes_in d
 bytes_more line d = all_more bytes_in line d
@@ -105,39 +104,14 @@ unfolding empty_link
 bytes_empty zero = refl
 bytes_empty (suc n) = bytes_empty n
 
--- what the events of a cycle add for a unit
-pub told_more : (unit : ℕ) (a b : List Event) → told_by unit (a ++ b) ≡ told_by unit a ++ told_by unit b
-told_more unit [] b = refl
-told_more unit (e ∷ rest) b =
-    ap (λ later. (if eqb e.unit unit then e.value ∷ [] else []) ++ later) (told_more unit rest b)
-    ∙ sym (append_assoc (if eqb e.unit unit then e.value ∷ [] else []) (told_by unit rest) (told_by unit b))
+-- the value of an event, if there is one
+value_told : (event : Option Event) → map (λ (e : Event). e.value) (option_to_list event) ≡ bytes_out event
+value_told None = refl
+value_told (Some e) = refl
 
-pub told_own : (unit now : ℕ) (event : Option Event) → ToldAt unit now event → told_by unit (option_to_list event) ≡ bytes_out event
-told_own unit now None t = refl
-told_own unit now (Some e) t = let same : eqb e.unit unit ≡ true = grind (arith, nat_tests) in rw same refl
-
-pub told_other : (unit other now : ℕ) (event : Option Event) → ToldAt other now event → eqb other unit ≡ false → told_by unit (option_to_list event) ≡ []
-told_other unit other now None t apart = refl
-told_other unit other now (Some e) t apart = let differ : eqb e.unit unit ≡ false = ap (λ u. eqb u unit) t.1 ∙ apart in rw differ refl
-
--- what the units of these numbers told in a cycle, as far as it is of one of them
-abbrev pub told_among : ℕ → List ℕ → List (Option Event) → List ℕ
-told_among unit [] told = []
-told_among unit (n ∷ ns) [] = []
-told_among unit (n ∷ ns) (e ∷ es) = (if eqb n unit then bytes_out e else []) ++ told_among unit ns es
-
-told_one : (unit n now : ℕ) (e : Option Event) (same : Bool) → eqb n unit ≡ same → ToldAt n now e
-    → told_by unit (option_to_list e) ≡ (if eqb n unit then bytes_out e else [])
-told_one unit n now e true s t =
-    let here : n ≡ unit = grind (arith, nat_tests) in
-    rw s (told_own unit now e (subst (λ u. ToldAt u now e) here t))
-told_one unit n now e false s t = rw s (told_other unit n now e t s)
-
-pub told_each : (unit now : ℕ) (numbers : List ℕ) (told : List (Option Event)) → AllTold now numbers told
-    → told_by unit (events_of told) ≡ told_among unit numbers told
-told_each unit now [] [] t = refl
-told_each unit now [] (e ∷ es) t = absurd t
-told_each unit now (n ∷ ns) [] t = absurd t
-told_each unit now (n ∷ ns) (e ∷ es) t =
-    told_more unit (option_to_list e) (events_of es) ∙ ap (λ first. first ++ told_by unit (events_of es)) (told_one unit n now e _ refl t.0)
-    ∙ ap (λ later. (if eqb n unit then bytes_out e else []) ++ later) (told_each unit now ns es t.1)
+-- what a unit told, where this is its event among those that come behind the others
+pub told_more : (unit : ℕ) (before here : List Event) (event : Option Event) → events_at unit here ≡ option_to_list event
+    → told_by unit (before ++ here) ≡ told_by unit before ++ bytes_out event
+told_more unit before here event e =
+    ap (map (λ (e : Event). e.value)) (at_more unit before here ∙ ap (λ later. events_at unit before ++ later) e)
+    ∙ map-append (λ (e : Event). e.value) (events_at unit before) (option_to_list event) ∙ ap (λ later. told_by unit before ++ later) (value_told event)

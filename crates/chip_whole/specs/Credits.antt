@@ -7,10 +7,13 @@ use Rattle.unit_fronts.specs.SerialRegisters.{SerialRegisters, serial_is_open}
 use Rattle.spi_flash.specs.SpiCounts.{entries_in}
 use Rattle.spi_flash.specs.SpiCycle.{SpiState, spi_cycle}
 use Rattle.soc_words.specs.Link.{NoneBehind, count_on, link_first}
+use Rattle.stream_link.specs.Laws.{words_in}
+use Rattle.stream_link.specs.StreamCycle.{stream_cycle}
+use Rattle.stream_link.specs.StreamState.{StreamState}
 use Rattle.uart_lane.specs.Counts.{bytes_in, bytes_out}
 use Rattle.uart_lane.specs.Cycle.{uart_cycle}
 use Rattle.uart_lane.specs.State.{UartState}
-use Rattle.chip_whole.specs.Chip.{ChipState}
+use Rattle.chip_whole.specs.Chip.{Board, ChipState}
 use Rattle.chip_whole.specs.Joined.{Joined}
 
 -- the answers that a front waits for are as many as the Resets on its line down and their answers on its line up
@@ -58,6 +61,10 @@ pub record AwaitsUnit {S : Type 0} (owed : ℕ) (j : Joined S) : Type 0 where
 abbrev pub queued_in : SpiState → ℕ
 queued_in s = length s.queue
 
+-- how many words wait in the stream link's unit
+abbrev pub words_waiting : StreamState → ℕ
+words_waiting s = length s.queue.waiting
+
 -- so it is for each unit
 pub record CreditsHold (c : ChipState) : Type 0 where
   pub uart0 : ServesUnit at_data c.hub.fronts.uart0 waiting_in c.units.uart0
@@ -65,6 +72,7 @@ pub record CreditsHold (c : ChipState) : Type 0 where
   pub spi : ServesUnit at_either_data c.hub.fronts.spi queued_in c.units.spi
   pub gpio : AwaitsUnit c.hub.fronts.gpio.owed c.units.gpio
   pub pwm : AwaitsUnit c.hub.fronts.pwm.owed c.units.pwm
+  pub slink : ServesUnit at_either_data c.hub.fronts.slink words_waiting c.slink
   pub wdt : AwaitsUnit c.hub.fronts.wdt.owed c.units.wdt
 
 -- in a cycle in which no Reset arrives, the bytes that waited and came are those that left and wait, in the same order
@@ -75,8 +83,14 @@ UartLosesNone s now down = reset_in down ≡ 0 → s.fifo ++ bytes_in down ≡ b
 abbrev pub SpiLosesNone : SpiState → ℕ → Option Down → Type 0
 SpiLosesNone s now down = reset_in down ≡ 0 → (spi_cycle s now down).unit.queue ≡ drop (credit_in (spi_cycle s now down).up) (s.queue ++ entries_in down)
 
--- no byte is lost in the cycle that comes next
-pub record LosesNone (c : ChipState) : Type 0 where
+-- in a cycle in which no Reset arrives, the words that waited and came wait in the same order, but for the first one where its credit goes up
+abbrev pub StreamLosesNone : Board → StreamState → ℕ → Option Down → Type 0
+StreamLosesNone board s now down =
+    reset_in down ≡ 0 → (stream_cycle board.part s now down).unit.queue.waiting ≡ drop (credit_in (stream_cycle board.part s now down).up) (s.queue.waiting ++ words_in down)
+
+-- no byte and no word is lost in the cycle that comes next
+pub record LosesNone (board : Board) (c : ChipState) : Type 0 where
   pub uart0 : UartLosesNone c.units.uart0.unit c.cycle (link_first c.units.uart0.down)
   pub uart1 : UartLosesNone c.units.uart1.unit c.cycle (link_first c.units.uart1.down)
   pub spi : SpiLosesNone c.units.spi.unit c.cycle (link_first c.units.spi.down)
+  pub slink : StreamLosesNone board c.slink.unit c.cycle (link_first c.slink.down)

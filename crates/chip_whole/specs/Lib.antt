@@ -1,3 +1,4 @@
+pub mod Asked
 pub mod Chip
 pub mod Credits
 pub mod Joined

@@ -5,6 +5,9 @@ ghost use Rattle.chip_whole.specs.Chip.{Board, ChipState};
 
 /// A chip in code stands for chips of the definition, over a board.
 pub trait Standing {
+    /// The part that the chip was handed, whose behaviour `stands` speaks of.
+    type Held;
+
     ghost stands: { Board → Self → ChipState → Type 0 };
 
     /// The cycle that is next to be stepped.

@@ -1,8 +1,10 @@
 //! Words as they are typed.
 
+use bench_parts::{Counter, Loop, NamedPart, Part, Scramble};
 use bench_words::{Job, RunJob, read_job};
-use chip_base::Boot;
+use chip_base::{Boot, Name};
 use std::alloc::{AllocError, Global};
+use std::test::Fail;
 
 /// The words of a line, one blank between each two.
 fn words_of(alloc: Global, line: &str) -> Result<Vec<String>, AllocError> {
@@ -22,9 +24,10 @@ struct Wanted<'a> {
     chip: Option<&'a str>,
     script: Option<&'a str>,
     groups: [u8; 8],
+    part: Option<&'a str>,
 }
 
-/// All lanes run together, on the standard chip without a script.
+/// All lanes run together, on the standard chip without a script and a part.
 fn plain<'a>(image: &'a str, cycles: u32) -> Wanted<'a> {
     Wanted {
         image,
@@ -33,6 +36,7 @@ fn plain<'a>(image: &'a str, cycles: u32) -> Wanted<'a> {
         chip: None,
         script: None,
         groups: [0; 8],
+        part: None,
     }
 }
 
@@ -43,15 +47,16 @@ fn is_wanted(job: &RunJob<'_>, wanted: &Wanted<'_>) -> bool {
     let chip = job.chip == wanted.chip;
     let script = job.script == wanted.script;
     let groups = job.groups.of == wanted.groups;
-    image && cycles && boot && chip && script && groups
+    let part = job.part == wanted.part;
+    image && cycles && boot && chip && script && groups && part
 }
 
-/// Whether the words of a line give this run.
-fn gives(alloc: Global, line: &str, wanted: &Wanted<'_>) -> bool {
+/// Whether the words of a line give this run, where these parts were handed in.
+fn gives(alloc: Global, parts: &[NamedPart], line: &str, wanted: &Wanted<'_>) -> bool {
     let Ok(words) = words_of(alloc, line) else {
         return false;
     };
-    match read_job(alloc, &words) {
+    match read_job(alloc, &words, parts) {
         Ok(Some(Job::Run(job))) => is_wanted(&job, wanted),
         _ => false,
     }
@@ -62,7 +67,7 @@ fn makes(alloc: Global, line: &str, payload: &str, out: &str, chip: Option<&str>
     let Ok(words) = words_of(alloc, line) else {
         return false;
     };
-    match read_job(alloc, &words) {
+    match read_job(alloc, &words, &[]) {
         Ok(Some(Job::Image(job))) => {
             job.payload == payload && job.out == out && job.chip == chip
         }
@@ -75,24 +80,24 @@ fn checks(alloc: Global, line: &str, image: &str, chip: Option<&str>) -> bool {
     let Ok(words) = words_of(alloc, line) else {
         return false;
     };
-    match read_job(alloc, &words) {
+    match read_job(alloc, &words, &[]) {
         Ok(Some(Job::Check(job))) => job.image == image && job.chip == chip,
         _ => false,
     }
 }
 
-/// Whether these words give no job.
-fn is_refused(alloc: Global, words: &[String]) -> bool {
-    match read_job(alloc, words) {
+/// Whether these words give no job, where these parts were handed in.
+fn is_refused(alloc: Global, parts: &[NamedPart], words: &[String]) -> bool {
+    match read_job(alloc, words, parts) {
         Ok(None) => true,
         _ => false,
     }
 }
 
-/// Whether the words of a line give no job.
-fn is_line_refused(alloc: Global, line: &str) -> bool {
+/// Whether the words of a line give no job, where these parts were handed in.
+fn is_line_refused(alloc: Global, parts: &[NamedPart], line: &str) -> bool {
     match words_of(alloc, line) {
-        Ok(words) => is_refused(alloc, &words),
+        Ok(words) => is_refused(alloc, parts, &words),
         Err(_) => false,
     }
 }
@@ -112,7 +117,10 @@ fn reads_jobs(rt: HostRuntime) {
         ("run  10 --boot raw", "", 10),
         ("run --boot raw -- --a 10", "--a", 10),
     ] {
-        assert!(&rt; gives(rt.alloc(), line, &plain(image, cycles)), "{line}");
+        assert!(&rt;
+            gives(rt.alloc(), &[], line, &plain(image, cycles)),
+            "{line}"
+        );
     }
     for (line, boot) in [
         ("run a.bin 10", Boot::Monitor),
@@ -124,7 +132,7 @@ fn reads_jobs(rt: HostRuntime) {
             boot,
             ..plain("a.bin", 10)
         };
-        assert!(&rt; gives(rt.alloc(), line, &wanted), "{line}");
+        assert!(&rt; gives(rt.alloc(), &[], line, &wanted), "{line}");
     }
     let none: Option<&str> = None;
     for (line, chip, script, groups) in [
@@ -172,8 +180,9 @@ fn reads_jobs(rt: HostRuntime) {
             chip,
             script,
             groups,
+            part: None,
         };
-        assert!(&rt; gives(rt.alloc(), line, &wanted), "{line}");
+        assert!(&rt; gives(rt.alloc(), &[], line, &wanted), "{line}");
     }
 }
 
@@ -257,7 +266,57 @@ fn refuses_other_words(rt: HostRuntime) {
         "debug a.bin 10 c.txt --boot raw",
         "demo 1",
     ] {
-        assert!(&rt; is_line_refused(rt.alloc(), line), "{line}");
+        assert!(&rt; is_line_refused(rt.alloc(), &[], line), "{line}");
     }
-    assert!(&rt; is_refused(rt.alloc(), &[]));
+    assert!(&rt; is_refused(rt.alloc(), &[], &[]));
+}
+
+/// Hands in one part more.
+fn hand_in(parts: &mut Vec<NamedPart>, name: &str, part: Box<dyn Part + Send>) -> Result<(), Fail> {
+    if let Some(name) = Name::new(name) {
+        parts.push(NamedPart { name, part })?;
+    }
+    Ok(())
+}
+
+/// Two of the parts have one name.
+#[test]
+fn reads_the_name_of_a_part(rt: HostRuntime) -> Result<(), Fail> {
+    let alloc = rt.alloc();
+    let mut parts = Vec::new(alloc);
+    hand_in(&mut parts, "loop", Box::new(alloc, Loop::new())?)?;
+    hand_in(
+        &mut parts,
+        "a part of mine",
+        Box::new(alloc, Counter::new())?,
+    )?;
+    hand_in(&mut parts, "loop", Box::new(alloc, Scramble::new())?)?;
+    for (line, part) in [
+        ("run a.bin 10 --boot raw", None),
+        ("run a.bin 10 --boot raw --part loop", Some("loop")),
+        ("run a.bin --part=loop 10 --boot raw", Some("loop")),
+        ("run --part loop --boot raw -- a.bin 10", Some("loop")),
+    ] {
+        let wanted = Wanted {
+            part,
+            ..plain("a.bin", 10)
+        };
+        assert!(&rt; gives(alloc, &parts, line, &wanted), "{line}");
+    }
+    for line in [
+        "run a.bin 10 --boot raw --part lop",
+        "run a.bin 10 --boot raw --part Loop",
+        "run a.bin 10 --boot raw --part scramble",
+        "run a.bin 10 --boot raw --part a",
+        "run a.bin 10 --boot raw --part=",
+        "run a.bin 10 --boot raw --part ",
+        "run a.bin 10 --boot raw --part",
+        "run a.bin 10 --boot raw --part loop --part=loop",
+        "image a.bin b.bin --part loop",
+        "check a.bin --part loop",
+    ] {
+        assert!(&rt; is_line_refused(alloc, &parts, line), "{line}");
+    }
+    assert!(&rt; is_line_refused(alloc, &[], "run a.bin 10 --boot raw --part loop"));
+    Ok(())
 }

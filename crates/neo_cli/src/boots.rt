@@ -36,7 +36,7 @@ fn answers<R: Threads + Sync>(
     let words = words_of(alloc, words)?;
     let mut shelf = shelf_of(alloc, image, script)?;
     let mut out = MemSink::new(alloc, Vec::new(alloc));
-    let answer = bench(rt, alloc, &words, &mut shelf, &mut out);
+    let answer = bench(rt, alloc, &words, &mut shelf, &mut out, Vec::new(alloc));
     Ok(answer == status && out.bytes() == text.as_bytes())
 }
 

@@ -66,7 +66,7 @@ fn answers<R: Threads + Sync>(
     let words = words_of(alloc, case.words)?;
     let mut shelf = shelf_of(alloc, case)?;
     let mut out = MemSink::new(alloc, vec![in alloc; case.failing_put]?);
-    let status = bench(rt, alloc, &words, &mut shelf, &mut out);
+    let status = bench(rt, alloc, &words, &mut shelf, &mut out, Vec::new(alloc));
     let told = status == wanted.status && out.bytes() == wanted.text.as_bytes();
     Ok(told && holds(&shelf, case, wanted.out))
 }
@@ -182,7 +182,7 @@ fn wraps_zeros<R: Threads + Sync>(
     let words = words_of(alloc, words)?;
     let mut shelf = shelf_of(alloc, &plain("", &file, b"imem = 4096\n"))?;
     let mut out = MemSink::new(alloc, Vec::new(alloc));
-    let status = bench(rt, alloc, &words, &mut shelf, &mut out);
+    let status = bench(rt, alloc, &words, &mut shelf, &mut out, Vec::new(alloc));
     Ok(status == 0 && out.bytes() == text.as_bytes())
 }
 

@@ -2,6 +2,8 @@
 #![tactic(auto)]
 
 #[cfg(test)]
+mod attached;
+#[cfg(test)]
 mod boots;
 #[cfg(test)]
 mod given;
@@ -16,9 +18,13 @@ mod tests;
 mod top;
 
 use crate::top::bench;
-use bench_shelf::{FileShelf, OutSink};
+use bench_parts::{Counter, Loop, NamedPart, Part, Scramble};
+use bench_shelf::{FileShelf, OutSink, Shelf, Sink};
+use chip_base::Name;
+use std::alloc::{AllocError, Global};
 use std::io::ErrorKind;
 use std::process::ExitCode;
+use std::thread::Threads;
 use std::{env, io};
 
 /// The words after the program's name.
@@ -28,6 +34,33 @@ fn arguments(rt: &HostRuntime) -> io::Result<Vec<String>> {
         words.push(word)?;
     }
     Ok(words)
+}
+
+/// Hands in one part more, where the text is a name.
+fn hand_in(
+    parts: &mut Vec<NamedPart>,
+    name: &str,
+    part: Box<dyn Part + Send>,
+) -> Result<(), AllocError> {
+    if let Some(name) = Name::new(name) {
+        parts.push(NamedPart { name, part })?;
+    }
+    Ok(())
+}
+
+/// Does what the words ask for, with the three parts of the bench at hand, and gives the status.
+fn bench_with_parts<R: Threads + Sync, S: Shelf, O: Sink>(
+    rt: &R,
+    alloc: Global,
+    words: &Vec<String>,
+    shelf: &mut S,
+    out: &mut O,
+) -> Result<u8, AllocError> {
+    let mut parts = Vec::new(alloc);
+    hand_in(&mut parts, "loop", Box::new(alloc, Loop::new())?)?;
+    hand_in(&mut parts, "counter", Box::new(alloc, Counter::new())?)?;
+    hand_in(&mut parts, "scramble", Box::new(alloc, Scramble::new())?)?;
+    Ok(bench(rt, alloc, words, shelf, out, parts))
 }
 
 fn main(rt: HostRuntime) -> ExitCode {
@@ -43,6 +76,8 @@ fn main(rt: HostRuntime) -> ExitCode {
     };
     let mut shelf = FileShelf::new(&rt);
     let mut out = OutSink::new(io::writer(&rt));
-    let status = bench(&rt, rt.alloc(), &words, &mut shelf, &mut out);
-    ExitCode::from(status)
+    match bench_with_parts(&rt, rt.alloc(), &words, &mut shelf, &mut out) {
+        Ok(status) => ExitCode::from(status),
+        Err(AllocError) => ExitCode::from(9),
+    }
 }

@@ -71,7 +71,7 @@ fn answers_over<R: Threads + Sync>(
     status: u8,
     text: &str,
 ) -> bool {
-    let answer = bench(rt, alloc, words, shelf, out);
+    let answer = bench(rt, alloc, words, shelf, out, Vec::new(alloc));
     answer == status && out.bytes() == text.as_bytes()
 }
 

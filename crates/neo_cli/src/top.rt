@@ -15,6 +15,7 @@ ghost use Rattle.chip_whole.specs.Chip.{Board, start};
 ghost use Rattle.soc_words.specs.Causes.{Rose};
 
 use bench_job::perform;
+use bench_parts::NamedPart;
 use bench_shelf::{Shelf, Sink};
 use std::alloc::Global;
 use std::thread::Threads;
@@ -26,11 +27,14 @@ use std::thread::Threads;
 ///   must be, and `monitor`, the mode without `--boot`, begins the boot monitor; the file is then what the script's `image` step sends.
 ///   With `--chip FILE` the chip has the settings of that file, else the standard ones; with `--script FILE` that script gives what
 ///   comes from outside, else nothing comes. `--groups GROUPS` says which lanes may run together, and changes no report. No thread is
-///   started.
+///   started. `--part NAME` attaches the first of the parts that has this name to the stream link; without it the link has none.
 /// - The words `image PAYLOAD OUT` make the image of the bytes of the file PAYLOAD, with zero bytes up to a multiple of four, in the
 ///   file OUT, and write the line `image LENGTH CHECKSUM`: the length of the payload with those zero bytes, in decimal digits, and the
 ///   checksum word, in eight hexadecimal digits.
 /// - The words `check IMAGE` write the same line of an image.
+///
+/// A part is taken as it behaves from its state at the call on. A NAME that no part has gives no job. The parts that aren't attached are
+/// dropped before the run.
 ///
 /// A payload has room where it is at most as long as the IMEM that `--chip FILE` gives, or 1,048,576 bytes without it. The chip file is
 /// read and judged first, then the image or the payload, then the script; the first refusal ends the call. The status is
@@ -53,32 +57,43 @@ pub fn bench<R: Threads + Sync, S: Shelf, O: Sink>(
     words: &Vec<String>,
     shelf: &mut S,
     out: &mut O,
+    parts: Vec<NamedPart>,
 ) -> u8
     // the answer to what the words ask for, over any shelf and sink
-    ensures keeps { Keeps (plan_of (job_of (map string_bytes words.now.items))) (call_of S.held O.written O.faults shelf.old shelf.new out.old out.new result) }
+    ensures keeps { let handed = map (λ p. record { name = p.name; behave = behave (p.part.vtable, p.part.value) }) parts.items in
+        let job = job_of (map (λ p. p.name) parts.items) (map string_bytes words.now.items) in
+        Keeps (plan_of handed job) (call_of S.held O.written O.faults shelf.old shelf.new out.old out.new result) }
 
     // each status has its cause
     ensures statuses { IsStatus result }
-    ensures usage { result ≡ 2 → job_of (map string_bytes words.now.items) ≡ None }
-    ensures no_job { job_of (map string_bytes words.now.items) ≡ None → ((S.held shelf.new).read_faults ≡ (S.held shelf.old).read_faults)
+    ensures usage { result ≡ 2 → job_of (map (λ p. p.name) parts.items) (map string_bytes words.now.items) ≡ None }
+    ensures no_job { job_of (map (λ p. p.name) parts.items) (map string_bytes words.now.items) ≡ None
+        → ((S.held shelf.new).read_faults ≡ (S.held shelf.old).read_faults)
         × Tells (refused usage_refusal) (call_of S.held O.written O.faults shelf.old shelf.new out.old out.new result) }
-    ensures refused_image { result ≡ 4 → IsRefusedImage (job_of (map string_bytes words.now.items)) (call_of S.held O.written O.faults shelf.old shelf.new out.old out.new result) }
+    ensures refused_image { let job = job_of (map (λ p. p.name) parts.items) (map string_bytes words.now.items) in
+        result ≡ 4 → IsRefusedImage job (call_of S.held O.written O.faults shelf.old shelf.new out.old out.new result) }
 
     // 7 comes only where the sink failed or the image's file couldn't be written, and where nothing failed the whole answer is told, or
     // want of memory
-    ensures write { result ≡ 7 → Rose (O.faults out.old) (O.faults out.new) ⊎ ((name : List ℕ) × IsOut (job_of (map string_bytes words.now.items)) name × Rose (S.held shelf.old).write_faults (S.held shelf.new).write_faults) }
-    ensures complete { IsTrue (S.held shelf.old).discloses → (Rose (S.held shelf.old).read_faults (S.held shelf.new).read_faults → ⊥)
-        → ((name : List ℕ) → IsOut (job_of (map string_bytes words.now.items)) name → Rose (S.held shelf.old).write_faults (S.held shelf.new).write_faults → ⊥) → (Rose (O.faults out.old) (O.faults out.new) → ⊥)
-        → IsTold (plan_of (job_of (map string_bytes words.now.items))) (call_of S.held O.written O.faults shelf.old shelf.new out.old out.new result) }
+    ensures write { let job = job_of (map (λ p. p.name) parts.items) (map string_bytes words.now.items) in
+        result ≡ 7 → Rose (O.faults out.old) (O.faults out.new) ⊎ ((name : List ℕ) × IsOut job name × Rose (S.held shelf.old).write_faults (S.held shelf.new).write_faults) }
+    ensures complete { let handed = map (λ p. record { name = p.name; behave = behave (p.part.vtable, p.part.value) }) parts.items in
+        let job = job_of (map (λ p. p.name) parts.items) (map string_bytes words.now.items) in
+        IsTrue (S.held shelf.old).discloses → (Rose (S.held shelf.old).read_faults (S.held shelf.new).read_faults → ⊥)
+        → ((name : List ℕ) → IsOut job name → Rose (S.held shelf.old).write_faults (S.held shelf.new).write_faults → ⊥)
+        → (Rose (O.faults out.old) (O.faults out.new) → ⊥)
+        → IsTold (plan_of handed job) (call_of S.held O.written O.faults shelf.old shelf.new out.old out.new result) }
 
     // only the image's file may have changed, and only after 0, 7 or 9
-    ensures writes { ((name : List ℕ) → IsOut (job_of (map string_bytes words.now.items)) name → ⊥) → (S.held shelf.new).write_faults ≡ (S.held shelf.old).write_faults }
-    ensures files_stay { (q : List ℕ) → (IsOut (job_of (map string_bytes words.now.items)) q → ⊥) → (S.held shelf.new).file q ≡ (S.held shelf.old).file q }
+    ensures writes { ((name : List ℕ) → IsOut (job_of (map (λ p. p.name) parts.items) (map string_bytes words.now.items)) name → ⊥)
+        → (S.held shelf.new).write_faults ≡ (S.held shelf.old).write_faults }
+    ensures files_stay { (q : List ℕ) → (IsOut (job_of (map (λ p. p.name) parts.items) (map string_bytes words.now.items)) q → ⊥)
+        → (S.held shelf.new).file q ≡ (S.held shelf.old).file q }
     ensures refused_stay { result ≢ 0 → result ≢ 7 → result ≢ 9 → (q : List ℕ) → (S.held shelf.new).file q ≡ (S.held shelf.old).file q }
 
     // under boot by monitor, in each cycle of each run, also after watchdog resets: core 0 leaves the monitor exactly where the command to
     // execute follows an upload, or a load from the flash, whose signature, length and checksum held
     ensures gate { (setup : Setup) (board : Board) (image : List ℕ) (script : Script) (k : ℕ) → IsGatedAfter (values_of setup) board (start (values_of setup) Monitor image script) k }
 {
-    perform(rt, alloc, words, shelf, out)
+    perform(rt, alloc, words, shelf, out, parts)
 }

@@ -4,13 +4,14 @@ use Rattle.std.specs.Prelude.{◌==◌, nat_lt}
 use Rattle.std.specs.Int.{bit_at}
 use Rattle.std.proofs.lemmas.Bool.{false≢true}
 use Rattle.std.proofs.lemmas.Bool.Decides.{nat_tests}
-use Rattle.std.proofs.lemmas.Nat.{and_le_r}
+use Rattle.std.proofs.lemmas.Nat.{and_le_r, and_mask, and_mod, and_shr}
 use Rattle.std.proofs.lemmas.Nat.Bits.{bit_at_and, same_from_bits}
 use Rattle.chip_base.specs.Bits.{bit_if}
 use Rattle.soc_words.proofs.Registers.{same_as}
-use Rattle.unit_fronts.specs.Control.{IsWritable, SetsControl, SetsSpiControl, TellsControl, writable}
+use Rattle.unit_fronts.specs.Control.{HasNoRate, IsWritable, SetsControl, SetsSlinkControl, SetsSpiControl, TellsControl, writable}
 use Rattle.unit_fronts.specs.SerialRegisters.{SerialRegisters, serial_control, serial_control_stored, serial_is_open, has_received}
 use Rattle.unit_fronts.specs.SerialFront.{SerialKind, serial_stored}
+use Rattle.unit_fronts.specs.SlinkFront.{slink_kept, slink_kind}
 use Rattle.unit_fronts.specs.SpiFront.{spi_kept, spi_kind}
 use Rattle.unit_fronts.specs.UartFront.{uart_kind}
 
@@ -138,12 +139,16 @@ tells_control s word e kept below =
     (has_bits s.kept _ _ _ _ (lies_apart s.kept kept below) (digit_below (has_received s)) (digit_below (s.credits == 0)) (digit_below s.overrun)
     (digit_below (nat_lt s.credits 16))))
 
--- a kept bit is the bit that was stored
-kept_bit : (word place : ℕ) → bit_at writable place ≡ 1 → bit_at word place ≤ 1 → bit_at (bit_and word writable) place ≡ bit_at word place
-kept_bit word place one low = bit_at_and word writable place ∙ (ap (min (bit_at word place)) one ∙ least (bit_at word place) low)
+-- a bit under a mask is the bit that was stored
+masked_bit : (mask word place : ℕ) → bit_at mask place ≡ 1 → bit_at word place ≤ 1 → bit_at (bit_and word mask) place ≡ bit_at word place
+masked_bit mask word place one low = bit_at_and word mask place ∙ (ap (min (bit_at word place)) one ∙ least (bit_at word place) low)
   where
     least : (a : ℕ) → a ≤ 1 → min a 1 ≡ a
     least a l = omega (arith, l)
+
+-- a kept bit is the bit that was stored
+kept_bit : (word place : ℕ) → bit_at writable place ≡ 1 → bit_at word place ≤ 1 → bit_at (bit_and word writable) place ≡ bit_at word place
+kept_bit word place one low = masked_bit writable word place one low
 
 three_same : (a b : ℕ) → a / 8 % 2 ≡ b / 8 % 2 → a / 16 % 2 ≡ b / 16 % 2 → a / 32 % 2 ≡ b / 32 % 2 → a / 8 % 8 ≡ b / 8 % 8
 three_same a b p q r = omega (arith, p, q, r)
@@ -230,10 +235,7 @@ pub spi_small : (word : ℕ) → spi_kept word < 2 ^ 23
 spi_small word = let most : bit_and word 0x004003f9 ≤ 0x004003f9 = and_le_r word 0x004003f9 in omega (arith, most)
 
 spi_bit : (word place : ℕ) → bit_at 0x004003f9 place ≡ 1 → bit_at word place ≤ 1 → bit_at (spi_kept word) place ≡ bit_at word place
-spi_bit word place one low = bit_at_and word 0x004003f9 place ∙ (ap (min (bit_at word place)) one ∙ least (bit_at word place) low)
-  where
-    least : (a : ℕ) → a ≤ 1 → min a 1 ≡ a
-    least a l = omega (arith, l)
+spi_bit word place one low = masked_bit 0x004003f9 word place one low
 
 spi_none : (word place : ℕ) → bit_at 0x004003f9 place ≡ 0 → bit_at (spi_kept word) place ≡ 0
 spi_none word place zero_there = bit_at_and word 0x004003f9 place ∙ (ap (min (bit_at word place)) zero_there ∙ none (bit_at word place))
@@ -289,6 +291,63 @@ sets_spi_by s reg word o = record {
 -- what a store to the SPI unit's open front changes of CTRL
 pub sets_spi_control : (s : SerialRegisters) (reg word : ℕ) (new : SerialRegisters) → new ≡ serial_stored spi_kind s reg word → serial_is_open s ≡ true → SetsSpiControl s reg word new
 sets_spi_control s reg word new e o = subst (λ n. SetsSpiControl s reg word n) (sym e) (sets_spi_by s reg word o)
+
+-- the stream link's CTRL
+
+pub slink_part : (word : ℕ) → IsWritable (slink_kept word)
+slink_part word = masked_part 0x00400001 word refl
+
+pub slink_small : (word : ℕ) → slink_kept word < 2 ^ 23
+slink_small word = let most : bit_and word 0x00400001 ≤ 0x00400001 = and_le_r word 0x00400001 in omega (arith, most)
+
+-- the fields that a store to the stream link's CTRL keeps
+record KeepsSlinkFields (word kept : ℕ) : Type 0 where
+  enable : kept / 1 % 2 ≡ word / 1 % 2
+  above_enable : kept / 2 % 32768 ≡ 0
+  interrupts : kept / 4194304 % 2 ≡ word / 4194304 % 2
+
+keeps_slink : (word : ℕ) → KeepsSlinkFields word (slink_kept word)
+keeps_slink word = record {
+  enable = masked_bit 0x00400001 word 0 refl (omega arith);
+  above_enable =
+      let part : slink_kept word / 2 ^ 1 % 2 ^ 15 ≡ bit_and (word / 2 ^ 1 % 2 ^ 15) 0
+      = ap (λ n. n % 2 ^ 15) (and_shr word 0x00400001 1) ∙ and_mod (word / 2 ^ 1) 0x200000 15 in
+      let none : bit_and (word / 2 ^ 1 % 2 ^ 15) 0 ≡ word / 2 ^ 1 % 2 ^ 15 % 2 ^ 0 = and_mask (word / 2 ^ 1 % 2 ^ 15) 0 in
+      omega (arith, part, none);
+  interrupts = masked_bit 0x00400001 word 22 refl (omega arith);
+}
+
+-- no bit of prescaler or baud is kept
+pub slink_no_rate : (word : ℕ) → HasNoRate (slink_kept word)
+slink_no_rate word = (keeps_slink word).above_enable
+
+slink_told : (s : SerialRegisters) (word : ℕ) → s.kept ≡ slink_kept word → TellsControl s (serial_control s)
+slink_told s word e =
+    tells_control s _ refl (subst (λ k. IsWritable k) (sym e) (slink_part word)) (subst (λ k. k < 2 ^ 23) (sym e) (slink_small word))
+
+fifteen_none : (a b : ℕ) → a / 2 % 4 ≡ 0 → a / 8 % 8 ≡ b / 8 % 8 → a / 64 % 1024 ≡ b / 64 % 1024 → b / 2 % 32768 ≡ 0 → a / 2 % 32768 ≡ 0
+fifteen_none a b p q r z =
+    let three : b / 8 % 8 ≡ 0 = omega (arith, z) in
+    let ten : b / 64 % 1024 ≡ 0 = omega (arith, z) in
+    let low : a / 8 % 8 ≡ 0 = omega (arith, q, three) in
+    let high : a / 64 % 1024 ≡ 0 = omega (arith, r, ten) in
+    omega (arith, p, low, high)
+
+sets_slink_by : (s : SerialRegisters) (reg word : ℕ) → serial_is_open s ≡ true → SetsSlinkControl s reg word (serial_stored slink_kind s reg word)
+sets_slink_by s reg word o = record {
+  enable = λ r. let e = at_control slink_kind s reg word o r in
+      (slink_told (serial_stored slink_kind s reg word) word e).enable ∙ ap (λ k. bit_at k 0) e ∙ (keeps_slink word).enable;
+  above_enable = λ r. let e = at_control slink_kind s reg word o r in
+      let told = slink_told (serial_stored slink_kind s reg word) word e in
+      fifteen_none _ _ told.below_prescaler told.prescaler told.baud (ap (λ k. k / 2 % 32768) e ∙ (keeps_slink word).above_enable);
+  interrupts = λ r. let e = at_control slink_kind s reg word o r in
+      (slink_told (serial_stored slink_kind s reg word) word e).interrupts ∙ ap (λ k. bit_at k 22) e ∙ (keeps_slink word).interrupts;
+  elsewhere = λ other. store_data slink_kind s reg word _ _ o refl refl other;
+}
+
+-- what a store to the stream link's open front changes of CTRL
+pub sets_slink_control : (s : SerialRegisters) (reg word : ℕ) (new : SerialRegisters) → new ≡ serial_stored slink_kind s reg word → serial_is_open s ≡ true → SetsSlinkControl s reg word new
+sets_slink_control s reg word new e o = subst (λ n. SetsSlinkControl s reg word n) (sym e) (sets_slink_by s reg word o)
 
 -- a store to CTRL of an open front keeps what its kind keeps
 pub control_is_stored : (kind : SerialKind) (s : SerialRegisters) (reg word : ℕ) (new : SerialRegisters) → serial_is_open s ≡ true → reg ≡ 0

@@ -46,3 +46,14 @@ pub record SetsSpiControl (old : SerialRegisters) (reg word : ℕ) (new : Serial
   pub above_divider : reg ≡ 0 → serial_control new / 2 ^ 10 % 2 ^ 6 ≡ 0
   pub interrupts : reg ≡ 0 → bit_at (serial_control new) 22 ≡ bit_at word 22
   pub elsewhere : reg ≢ 0 → new.kept ≡ old.kept
+
+-- the same of the stream link's CTRL, which has enable and interrupt enable alone
+pub record SetsSlinkControl (old : SerialRegisters) (reg word : ℕ) (new : SerialRegisters) : Type 0 where
+  pub enable : reg ≡ 0 → bit_at (serial_control new) 0 ≡ bit_at word 0
+  pub above_enable : reg ≡ 0 → serial_control new / 2 % 2 ^ 15 ≡ 0
+  pub interrupts : reg ≡ 0 → bit_at (serial_control new) 22 ≡ bit_at word 22
+  pub elsewhere : reg ≢ 0 → new.kept ≡ old.kept
+
+-- neither prescaler nor baud: bits 1 to 15 of a word are zero, as of every control word of the stream link
+abbrev pub HasNoRate : ℕ → Type 0
+HasNoRate word = word / 2 % 2 ^ 15 ≡ 0

@@ -11,6 +11,7 @@ pub mod PwmFront
 pub mod ReceiveQueue
 pub mod SerialFront
 pub mod SerialRegisters
+pub mod SlinkFront
 pub mod SpiFront
 pub mod UartFront
 pub mod WdtFront

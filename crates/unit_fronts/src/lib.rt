@@ -8,12 +8,14 @@ pub mod gpio_front;
 mod owed;
 pub mod pwm_front;
 mod serial_registers;
+pub mod slink_front;
 pub mod spi_front;
 pub mod uart_front;
 pub mod wdt_front;
 
 pub use gpio_front::GpioFront;
 pub use pwm_front::PwmFront;
+pub use slink_front::SlinkFront;
 pub use spi_front::SpiFront;
 pub use uart_front::UartFront;
 pub use wdt_front::WdtFront;

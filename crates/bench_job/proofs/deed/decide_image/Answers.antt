@@ -5,12 +5,12 @@ use Rattle.bench_job.specs.Plans.{done_of, making_room, making_step}
 use Rattle.bench_job.proofs.deed.decide_image.Goals as goal
 
 pub returns-in_err-image : goal.returns-in_err-image
-returns-in_err-image g c =
+returns-in_err-image g c = λ handed.
     reads_then (making_room (making_view c.args.job.now)) _ c.in_ok-room.ensures
-    (reads_exit_as (making_step (making_view c.args.job.now)) done_of c.from_residual-in_err-image.result c.from_residual-in_err-image.ensures.1 c.in_err-image.ensures.reads)
+    (reads_exit_as (making_step (making_view c.args.job.now)) (done_of handed) c.from_residual-in_err-image.result c.from_residual-in_err-image.ensures.1 c.in_err-image.ensures.reads)
 
 pub returns : goal.returns
-returns g c =
+returns g c = λ handed.
     let same = rw c.deref.ensures.value at c.image_line-text.ensures in
     reads_then (making_room (making_view c.args.job.now)) _ c.in_ok-room.ensures
     (reads_then (making_step (making_view c.args.job.now)) _ c.in_ok-image.ensures.reads

@@ -9,5 +9,6 @@ use Rattle.bench_report.proofs.report.put_memory.Given as goal
 
 abbrev pub invariant-loop-number : goal.invariant-loop-number
 invariant-loop-number g l =
-    ForEach ghosts.stands l.chip (λ _ s. Appending (g.O.Sink.written l.initial.out) (g.O.Sink.written l.out) (g.O.Sink.faults l.initial.out) (g.O.Sink.faults l.out)
+    ForEach (ghosts (g.dyn-1.0, g.dyn-1.1, g.dyn-1.2)).stands l.chip (λ _ s.
+    Appending (g.O.Sink.written l.initial.out) (g.O.Sink.written l.out) (g.O.Sink.faults l.initial.out) (g.O.Sink.faults l.out)
     (joined_below (row_text_in (base_of l.bank) (bytes_of s.hub l.bank)) l.number) (Ok (tt {0})))

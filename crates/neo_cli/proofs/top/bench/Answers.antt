@@ -6,28 +6,28 @@ pub returns-clause-keeps : goal.returns-clause-keeps
 returns-clause-keeps g c = rw c.deref.ensures.value at c.perform.ensures
 
 pub returns-clause-statuses : goal.returns-clause-statuses
-returns-clause-statuses g c = statuses _ _ c.perform.ensures
+returns-clause-statuses g c = statuses _ _ _ c.perform.ensures
 
 pub returns-clause-usage : goal.returns-clause-usage
-returns-clause-usage g c = usage_only _ _ (rw c.deref.ensures.value at c.perform.ensures)
+returns-clause-usage g c = usage_only _ _ _ (rw c.deref.ensures.value at c.perform.ensures)
 
 pub returns-clause-no_job : goal.returns-clause-no_job
-returns-clause-no_job g c = no_job _ _ (rw c.deref.ensures.value at c.perform.ensures)
+returns-clause-no_job g c = no_job _ _ _ (rw c.deref.ensures.value at c.perform.ensures)
 
 pub returns-clause-refused_image : goal.returns-clause-refused_image
-returns-clause-refused_image g c = refused_image _ _ (rw c.deref.ensures.value at c.perform.ensures)
+returns-clause-refused_image g c = refused_image _ _ _ (rw c.deref.ensures.value at c.perform.ensures)
 
 pub returns-clause-write : goal.returns-clause-write
-returns-clause-write g c = failed _ _ (rw c.deref.ensures.value at c.perform.ensures)
+returns-clause-write g c = failed _ _ _ (rw c.deref.ensures.value at c.perform.ensures)
 
 pub returns-clause-complete : goal.returns-clause-complete
-returns-clause-complete g c = told_whole _ _ (rw c.deref.ensures.value at c.perform.ensures)
+returns-clause-complete g c = told_whole _ _ _ (rw c.deref.ensures.value at c.perform.ensures)
 
 pub returns-clause-writes : goal.returns-clause-writes
-returns-clause-writes g c = quiet _ _ (rw c.deref.ensures.value at c.perform.ensures)
+returns-clause-writes g c = quiet _ _ _ (rw c.deref.ensures.value at c.perform.ensures)
 
 pub returns-clause-files_stay : goal.returns-clause-files_stay
-returns-clause-files_stay g c = still _ _ (rw c.deref.ensures.value at c.perform.ensures)
+returns-clause-files_stay g c = still _ _ _ (rw c.deref.ensures.value at c.perform.ensures)
 
 pub returns-clause-refused_stay : goal.returns-clause-refused_stay
 returns-clause-refused_stay g c = let k = rw c.deref.ensures.value at c.perform.ensures in k.kept

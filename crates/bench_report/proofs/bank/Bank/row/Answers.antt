@@ -4,7 +4,7 @@ use Rattle.bench_report.proofs.Rows.{row_of_words}
 use Rattle.bench_report.proofs.bank.Bank.row.Goals as goal
 
 pub returns : goal.returns
-returns c board s h room =
+returns g c board s h room =
     c.joined.ensures
     ∙ rw (
       c.word-first.ensures board s h (omega (arith, room)),
