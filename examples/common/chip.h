@@ -6,6 +6,18 @@
 
 #define REGISTER(address) (*(volatile uint32_t *)(address))
 
+/* SLINK, the stream link: passes words to a part on the bench, and the part's replies back. */
+#define SLINK_CTRL              REGISTER(0xffec0000)
+#define SLINK_DATA              REGISTER(0xffec0004)
+#define SLINK_LAST              REGISTER(0xffec0008) /* as DATA, for the last word of a packet */
+/* of CTRL */
+#define SLINK_ENABLE            (1u << 0)
+#define SLINK_RECEIVED          (1u << 16) /* read only */
+#define SLINK_FULL              (1u << 21) /* read only */
+#define SLINK_INTERRUPT         (1u << 22)
+#define SLINK_OVERRUN           (1u << 30) /* read only */
+#define SLINK_BUSY              (1u << 31) /* read only */
+
 /* DMA: copies words. */
 #define DMA_CTRL                REGISTER(0xffed0000)
 #define DMA_SRC                 REGISTER(0xffed0004)
@@ -119,6 +131,7 @@
 #define OPEN_SPI                (1u << 3)
 #define OPEN_GPIO               (1u << 4)
 #define OPEN_PWM                (1u << 5)
+#define OPEN_SLINK              (1u << 6)
 #define OPEN_WDT                (1u << 7)
 
 /* The mailbox: where hart 1 starts, and its stack pointer. */
@@ -133,6 +146,7 @@
 #define UART1_LINE              (1u << 18)
 #define SPI_LINE                (1u << 19)
 #define GPIO_LINE               (1u << 20)
+#define SLINK_LINE              (1u << 22)
 
 /* of mstatus */
 #define MSTATUS_MIE             (1u << 3)
@@ -153,6 +167,7 @@ INTERRUPT_HANDLER void on_uart0(void);
 INTERRUPT_HANDLER void on_uart1(void);
 INTERRUPT_HANDLER void on_spi(void);
 INTERRUPT_HANDLER void on_gpio(void);
+INTERRUPT_HANDLER void on_slink(void);
 
 /* The traps of the hart that calls this go where start.S says. For hart 0 start.S does so; hart 1's mtvec is 0 when it starts. */
 extern char trap_vectors[];

@@ -42,9 +42,11 @@ trap_vectors:
         j       on_uart1                        # 18
         j       on_spi                          # 19
         j       on_gpio                         # 20
+        j       trap_stop
+        j       on_slink                        # 22
         .option pop
 
-        .weak   on_software, on_timer, on_dma, on_uart0, on_uart1, on_spi, on_gpio
+        .weak   on_software, on_timer, on_dma, on_uart0, on_uart1, on_spi, on_gpio, on_slink
         .set    on_software, trap_stop
         .set    on_timer, trap_stop
         .set    on_dma, trap_stop
@@ -52,6 +54,7 @@ trap_vectors:
         .set    on_uart1, trap_stop
         .set    on_spi, trap_stop
         .set    on_gpio, trap_stop
+        .set    on_slink, trap_stop
 
 # An exception, or an interrupt without a handler. The hart stops here, asleep with no interrupt enabled, and the report shows the trap:
 # x28 mcause, x29 mepc, x30 mtval, and x31 0000dead, which says that the three stand for a trap. The other registers stay.
