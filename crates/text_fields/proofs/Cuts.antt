@@ -5,8 +5,8 @@ use Rattle.std.proofs.Common.{inl, inr}
 use Rattle.std.specs.Prelude.{◌==◌}
 use Rattle.std.proofs.lemmas.Bool.Decides.{nat_tests}
 use Rattle.std.specs.List.{list_all, prefix_len}
-use Rattle.text_fields.specs.Fields.{Text}
-use Rattle.text_fields.specs.Lines.{IsRest, add_front, is_inside, pieces, trimmed, without_return}
+use Rattle.text_fields.specs.Fields.{Text, add_front}
+use Rattle.text_fields.specs.Lines.{IsRest, is_inside, pieces, trimmed, without_return}
 
 pub pieces_last : (xs : Text) → prefix_len is_inside xs ≡ length xs → pieces xs ≡ xs ∷ []
 unfolding pieces

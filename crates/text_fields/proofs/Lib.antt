@@ -1,5 +1,7 @@
 pub mod Cuts
 pub mod FieldRound
+pub mod FieldSteps
+pub mod HexNumbers
 pub mod LinesRound
 pub mod Prefixes
 pub mod PrintedNumbers

@@ -1,5 +1,5 @@
 -- A definition: the fields of a line, which blanks separate.
-use Rattle.std.specs.Prelude.{ℕ, ◌==◌, ◌||◌, Bool, true, not, List, [], ◌∷◌, take, drop}
+use Rattle.std.specs.Prelude.{ℕ, ◌==◌, ◌||◌, Bool, true, not, List, [], ◌∷◌, if◌then◌else◌, take, drop}
 use Rattle.std.specs.List.{prefix_len}
 
 -- a text as its bytes
@@ -30,3 +30,13 @@ field text = take (prefix_len is_part text) text
 -- what follows this field and the blanks after it
 unfoldable pub after_field : Text → Text
 after_field text = skip (drop (prefix_len is_part text) text)
+
+-- the byte put before the first item
+abbrev pub add_front : ℕ → List Text → List Text
+add_front b [] = (b ∷ []) ∷ []
+add_front b (first ∷ more) = (b ∷ first) ∷ more
+
+-- the fields of a text, in their order
+unfoldable pub fields : Text → List Text
+fields [] = []
+fields (b ∷ rest) = if is_blank b then fields rest else if ends_field rest then (b ∷ []) ∷ fields rest else add_front b (fields rest)

@@ -1,12 +1,7 @@
 -- A definition: the lines of a text.
 use Rattle.std.specs.Prelude.{◌≡◌, ℕ, ◌+◌, ◌-◌, ◌==◌, ◌&&◌, Bool, true, not, List, [], ◌∷◌, ◌++◌, Option, Some, None, if◌then◌else◌, nat_lt, length, slice_index, take}
 use Rattle.std.specs.List.{list_all}
-use Rattle.text_fields.specs.Fields.{Text}
-
--- the byte put before the first line
-abbrev pub add_front : ℕ → List Text → List Text
-add_front b [] = (b ∷ []) ∷ []
-add_front b (line ∷ more) = (b ∷ line) ∷ more
+use Rattle.text_fields.specs.Fields.{Text, add_front}
 
 -- a byte that isn't a line feed
 abbrev pub is_inside : ℕ → Bool

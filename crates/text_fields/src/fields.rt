@@ -1,7 +1,7 @@
 //! Fields that blanks separate. A blank is a space or a tab.
-ghost use Rattle.std.specs.Prelude.{◌≡◌, ◌≤◌, length, drop};
+ghost use Rattle.std.specs.Prelude.{◌≡◌, ◌≤◌, ◌<◌, IfNone, IfSome, [], ◌∷◌, length, drop};
 ghost use Rattle.std.specs.List.{prefix_len};
-ghost use Rattle.text_fields.specs.Fields.{after_field, ends_field, field, is_blank, is_part, skip};
+ghost use Rattle.text_fields.specs.Fields.{after_field, ends_field, field, fields, is_blank, is_part, skip};
 
 /// Whether a byte separates fields.
 fn is_blank(byte: u8) -> bool
@@ -72,4 +72,18 @@ pub fn ends_field(text: &[u8]) -> bool
     ensures { result ≡ ends_field text.now }
 {
     text.is_empty() || is_blank(text[0])
+}
+
+/// The first field of a text, and what follows it and its blanks. None exactly where the text has no field.
+#[tactic(auto, using(crate::proofs::FieldSteps::first_field, crate::proofs::FieldSteps::no_field))]
+pub fn cut_field<'a>(text: &'a [u8]) -> Option<(&'a [u8], &'a [u8])>
+    ensures some { IfSome result (λ p. fields text.entry.now ≡ p.0.now ∷ fields p.1.now) }
+    ensures nonempty { IfSome result (λ p. 0 < length text.entry.now) }
+    ensures none { IfNone result (fields text.entry.now ≡ []) }
+{
+    let text = skip(text);
+    if text.is_empty() {
+        return None;
+    }
+    Some((field(text), after_field(text)))
 }

@@ -1,25 +1,12 @@
 //! Texts in double quotes.
 ghost use Rattle.std.specs.Prelude.{◌≡◌, ◌≤◌, ◌<◌, length, drop, option_map, IfOk, IfSome, IsNone, List, ℕ, true, []};
-ghost use Rattle.hex.specs.Hex.{hex_digit_value};
 ghost use Rattle.text_fields.specs.Quoted.{escape_value, plain, quoted, quoted_text, turn};
 ghost use Rattle.text_fields.specs.QuotedMeaning.{IsQuoted};
 ghost use Rattle.text_fields.specs.QuotedParts.{comes_small, is_small, mode_view, quoted_view, turn_view};
 
 use crate::lines::text_from;
+use crate::numbers::hex_digit;
 use std::alloc::{AllocError, Global};
-
-/// The value of a hexadecimal digit.
-pub fn hex_digit(byte: u8) -> Option<u8>
-    ensures value { result ≡ hex_digit_value byte }
-    ensures bound { IfSome result (λ v. v < 16) }
-{
-    match byte {
-        b'0'..=b'9' => Some(byte - b'0'),
-        b'a'..=b'f' => Some(byte - b'a' + 10),
-        b'A'..=b'F' => Some(byte - b'A' + 10),
-        _ => None,
-    }
-}
 
 /// What the letter after a backslash stands for, but `x`.
 fn escape(byte: u8) -> Option<u8>
