@@ -55,6 +55,7 @@ impl WordQueue {
     }
 
     /// A register is set.
+    #[inline(never)]
     pub fn set(&mut self, reg: u8, word: u32)
         ensures { self.new ≡ set_in self.old reg word }
     {
@@ -67,6 +68,7 @@ impl WordQueue {
     }
 
     /// A cycle's work: gives the word that is passed in it, if one is.
+    #[inline(always)]
     pub fn next_word(&mut self) -> Option<StreamWord>
         ensures word { result ≡ next_word self.old }
         ensures queue { self.new ≡ queue_after self.old (next_word self.old) }

@@ -83,6 +83,7 @@ fn link_event(now: Cycle, word: StreamWord) -> Event
 }
 
 /// A word is passed to the part, if there is one.
+#[inline(never)]
 fn pass(part: &mut Option<Box<dyn Part + Send>>, now: Cycle, word: StreamWord) -> UnitOut
     ensures asks { (start : Option Behaviour) (passed : List PartEvent) → BehavesAfter start (option_map (λ b. behave b) part.old) passed
         → Passed start passed now word (option_map (λ b. behave b) part.new) result.up }
@@ -116,6 +117,7 @@ impl Stream {
         }
     }
 
+    #[inline(always)]
     fn work(&mut self, now: Cycle) -> UnitOut
         ensures { (part : Option Behaviour) (s : StreamState) → ⟦<Stream as StreamStanding>⟧.stands part self.old s
             → ⟦<Stream as StreamStanding>⟧.stands part self.new (worked part s now).unit
@@ -130,6 +132,7 @@ impl Stream {
     /// One cycle: takes the message that arrives in it, if there is one, then passes the word that waits first, if the unit is enabled
     /// and no gap is left. Gives what leaves the unit: the event of that word, and with its credit the word that the part replied, if
     /// it did. In the cycle of a Reset only its answer, done, goes up.
+    #[inline(always)]
     #[tactic(auto, unfolding(crate::specs::StreamCycle::stream_cycle), using(crate::proofs::Order::passes_in_order, crate::proofs::Order::passes_at_once, crate::proofs::Order::counts_waiting))]
     pub fn cycle(&mut self, now: Cycle, down: Option<Down>) -> UnitOut
         ensures stands { (part : Option Behaviour) (s : StreamState) → ⟦<Stream as StreamStanding>⟧.stands part self.old s
