@@ -39,6 +39,8 @@ mod scripts;
 #[cfg(test)]
 mod shelves;
 #[cfg(test)]
+mod trace;
+#[cfg(test)]
 mod uart;
 #[cfg(test)]
 mod values;
