@@ -16,7 +16,7 @@ use Rattle.chip_hub.specs.Cycle.{arrived, fires, hub_cycle, hub_worked, reset_by
 use Rattle.chip_hub.specs.Seat.{Seat}
 use Rattle.chip_hub.specs.Start.{first_core, hub_start, seat_start}
 use Rattle.chip_hub.specs.State.{HubStep}
-use Rattle.chip_whole.specs.Chip.{Board, ChipState, after, delay_of, start, stepped, tick}
+use Rattle.chip_whole.specs.Chip.{Board, ChipState, after, arrivals, delay_of, start, stepped, tick}
 use Rattle.core_pair.specs.declared.phase.Phase.TheVariants.{Monitor}
 use Rattle.delay_line.specs.Queue.{empty_link}
 use Rattle.flash_seen.specs.Seen.{seen}
@@ -39,7 +39,7 @@ use Rattle.chip_gate.specs.Seated.{is_monitor}
 use Rattle.chip_gate.proofs.Bytes.{CarriesBytes, start_bytes, stays_bytes}
 use Rattle.chip_gate.proofs.Outside.{StaysOut, cycle_out}
 use Rattle.chip_gate.proofs.Reached.{never}
-use Rattle.chip_gate.proofs.Steps.{Fits, Goes, Keeps, arrivals, base_none, holds_on, path_by, worked_on}
+use Rattle.chip_gate.proofs.Steps.{Fits, Goes, Keeps, base_none, holds_on, path_by, worked_on}
 use Rattle.chip_gate.proofs.Ticks.{AfterMonitor, cycle_in, is_monitor_phase}
 
 -- a front that was closed waits for an answer

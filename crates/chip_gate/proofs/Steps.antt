@@ -12,7 +12,7 @@ use Rattle.chip_base.specs.declared.chip_unit.ChipUnit.TheVariants.{Spi, Wdt}
 use Rattle.chip_base.specs.declared.message.Up.{Up}
 use Rattle.chip_hub.specs.Cycle.{arrived, arrived_at, hub_worked}
 use Rattle.chip_hub.specs.State.{HubStep}
-use Rattle.chip_whole.specs.Chip.{Board, ChipState, arriving, delay_of, stepped}
+use Rattle.chip_whole.specs.Chip.{Board, ChipState, arrivals, delay_of, stepped}
 use Rattle.core_pair.specs.declared.phase.Phase.TheVariants.{Parked}
 use Rattle.dma_unit.specs.declared.state.DmaState.TheVariants.{Idle}
 use Rattle.flash_seen.specs.Seen.{Seen}
@@ -31,10 +31,6 @@ use Rattle.chip_gate.specs.Seated.{is_monitor, shown_by}
 use Rattle.chip_gate.proofs.Bytes.{CarriesBytes, stays_bytes}
 use Rattle.chip_gate.proofs.Known.{FlashAt, HasBase, IsKnown, WillHaveBase}
 use Rattle.chip_gate.proofs.Accesses.{Reaches, SameMonitor, worked_reaches, worked_same}
-
--- what arrives at a chip's hub in the cycle that comes
-abbrev pub arrivals : ChipState → List (Option Up)
-arrivals c = arriving c.units (link_first c.slink.up)
 
 -- a delay of links
 pub record IsDelay (delay : ℕ) : Type 0 where

@@ -17,7 +17,7 @@ use Rattle.chip_hub.specs.Access.{Accessed, accessed}
 use Rattle.chip_hub.specs.Cycle.{answered_core0, arrived, hub_worked, nobody_served, seat_after, served, served_core0, served_to, timed, turn0, turn1, turned0, turned1, wanted0, wants_of}
 use Rattle.chip_hub.specs.Seat.{Seat, asked, hands_over, is_hand_over, reply_in, request_in, seat_turned, standing}
 use Rattle.chip_hub.specs.State.{HubState, HubStep}
-use Rattle.chip_whole.specs.Chip.{Board, ChipState, stepped}
+use Rattle.chip_whole.specs.Chip.{Board, ChipState, arrivals, stepped}
 use Rattle.core_pair.specs.Clint.{ClintState}
 use Rattle.core_pair.specs.Core.{CoreState, reset_core, wanted_in}
 use Rattle.core_pair.specs.declared.phase.Phase.{Phase}
@@ -47,7 +47,7 @@ use Rattle.chip_gate.specs.Seated.{is_monitor, shown_by, taken}
 use Rattle.chip_gate.proofs.Bytes.{arrived_bytes, heard_kept}
 use Rattle.chip_gate.proofs.Known.{FlashAt, HasBase, IsKnown, IsWordOf, WillHaveBase, asks_next, flash_next, hears, is_open_request, rests, shut_asks}
 use Rattle.chip_gate.proofs.Reached.{IsServed, accessed_core, monitor_served, never}
-use Rattle.chip_gate.proofs.Steps.{AtMonitor, Fits, HasLeft, Holds, arrivals, flash_on, heard_is, path_by, quiet_ended}
+use Rattle.chip_gate.proofs.Steps.{AtMonitor, Fits, HasLeft, Holds, flash_on, heard_is, path_by, quiet_ended}
 
 -- after a cycle that began in the monitor
 pub record AfterMonitor (v : Values) (base : Option (Option (List ℕ))) (next : ChipState) : Type 0 where

@@ -1,8 +1,7 @@
 -- Definition: what stood in the flash when the boot monitor could first reach it.
 use Rattle.std.specs.Prelude.{ℕ, zero, suc, Bool, List, Option, Some, None, if◌then◌else◌}
 use Rattle.chip_hub.specs.Cycle.{fires}
-use Rattle.chip_whole.specs.Chip.{Board, ChipState, after, arriving}
-use Rattle.soc_words.specs.Link.{link_first}
+use Rattle.chip_whole.specs.Chip.{Board, ChipState, after, arrivals}
 use Rattle.spi_flash.specs.Flash.{FlashState, settled}
 use Rattle.unit_fronts.specs.SerialRegisters.{serial_is_open}
 
@@ -15,7 +14,7 @@ flash_in c = bytes_once_done c.units.spi.unit.flash
 
 -- the hub is reset in the cycle that comes
 abbrev pub is_reset_next : ChipState → Bool
-is_reset_next c = fires (arriving c.units (link_first c.slink.up))
+is_reset_next c = fires (arrivals c)
 
 -- nothing yet, and SPI's front is open: it is what stands in the flash now
 abbrev pub based : Option (Option (List ℕ)) → ChipState → Option (Option (List ℕ))

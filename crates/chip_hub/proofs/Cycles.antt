@@ -1,28 +1,47 @@
 -- The steps of a cycle, as the code of a hub makes them.
-use Rattle.std.proofs.Common.{◌≡◌, ℕ, List, Option, refl, subst, sym, ap}
+use Rattle.std.proofs.Common.{◌≡◌, ℕ, List, Option, Some, refl, subst, sym, ap}
 use Rattle.chip_base.specs.declared.boot.Boot.{Boot}
 use Rattle.chip_base.specs.declared.message.Down.{Down}
 use Rattle.chip_base.specs.declared.message.Up.{Up}
+use Rattle.core_pair.specs.Core.{wanted_in}
 use Rattle.core_pair.specs.declared.phase.Phase.TheVariants.{Want}
 use Rattle.soc_bus.specs.declared.access.Request.{Request}
+use Rattle.dma_unit.specs.DmaRegisters.{dma_wanted}
 use Rattle.chip_hub.specs.Access.{accessed}
-use Rattle.chip_hub.specs.Cycle.{answered_core0, arrived, closed, hub_worked, reset_by, seat_after, served, served_core0, timed, turn0, turn1, wanted0, wants_of}
-use Rattle.chip_hub.specs.Kept.{HubKept, SeatKept, SeatStands, StepStands}
+use Rattle.chip_hub.specs.Cycle.{answered_core0, answered_core1, answered_dma, arrived, closed, hub_worked, reset_by, seat_after, served, served_core0, served_core1, served_dma, timed, turn0, turn1, wanted0, wants_of}
+use Rattle.chip_hub.specs.Kept.{HubKept, SeatStands, StepStands}
 use Rattle.chip_hub.specs.Seat.{Seat, seat_reset}
 use Rattle.chip_hub.specs.Start.{hub_reset}
 use Rattle.chip_hub.specs.State.{HubState, HubStep}
 use Rattle.chip_hub.specs.Units.{resets}
 
+-- a step that leaves the seat as it was
+stands_after : (kept : HubKept) (seat : Seat) (sent : List (Option Down)) (step : HubStep)
+    → ◌≡◌ {A = HubStep} (record { hub = kept.hub; seat = seat; downs = sent }) step → SeatStands kept.seat seat → StepStands kept sent step
+stands_after kept seat sent step e h = subst (λ step. StepStands kept sent step) e (record { hub = refl; seat = h; downs = refl })
+
 -- core 0 is granted the request that it waits for
-pub want_served : (s new : HubState) (k : SeatKept) (seat : Seat) (request : Request) (sent : List (Option Down)) → s.core0.phase ≡ Want request
-    → ◌≡◌ {A = HubStep} (record { hub = new; seat = seat; downs = sent }) (answered_core0 (accessed s request) seat (Want request)) → SeatStands k seat
-    → StepStands (record { hub = new; seat = k }) sent (served_core0 s seat (wanted0 seat s.core0.phase))
-want_served s new k seat request sent e step h =
-    let kept : HubKept = record { hub = new; seat = k } in
-    let given : StepStands kept sent (answered_core0 (accessed s request) seat (Want request))
-    = subst (λ step. StepStands kept sent step) step (record { hub = refl; seat = h; downs = refl }) in
+pub want_served : (s : HubState) (kept : HubKept) (seat : Seat) (request : Request) (sent : List (Option Down)) → s.core0.phase ≡ Want request
+    → ◌≡◌ {A = HubStep} (record { hub = kept.hub; seat = seat; downs = sent }) (answered_core0 (accessed s request) seat (Want request)) → SeatStands kept.seat seat
+    → StepStands kept sent (served_core0 s seat (wanted0 seat s.core0.phase))
+want_served s kept seat request sent e step h =
+    let given : StepStands kept sent (answered_core0 (accessed s request) seat (Want request)) = stands_after kept seat sent _ step h in
     subst (λ wanted. StepStands kept sent (served_core0 s seat wanted)) (sym (ap (wanted0 seat) e))
     (subst (λ phase. StepStands kept sent (answered_core0 (accessed s request) seat phase)) (sym e) given)
+
+-- core 1 is granted the request that it waits for
+pub core1_served : (s : HubState) (kept : HubKept) (seat : Seat) (request : Request) (sent : List (Option Down)) → wanted_in s.core1.phase ≡ Some request
+    → ◌≡◌ {A = HubStep} (record { hub = kept.hub; seat = seat; downs = sent }) (answered_core1 (accessed s request) seat) → SeatStands kept.seat seat
+    → StepStands kept sent (served_core1 s seat (wanted_in s.core1.phase))
+core1_served s kept seat request sent e step h =
+    subst (λ wanted. StepStands kept sent (served_core1 s seat wanted)) (sym e) (stands_after kept seat sent (answered_core1 (accessed s request) seat) step h)
+
+-- the DMA is granted the request that it waits for
+pub dma_served : (s : HubState) (kept : HubKept) (seat : Seat) (request : Request) (sent : List (Option Down)) → dma_wanted s.dma ≡ Some request
+    → ◌≡◌ {A = HubStep} (record { hub = kept.hub; seat = seat; downs = sent }) (answered_dma (accessed s request) seat) → SeatStands kept.seat seat
+    → StepStands kept sent (served_dma s seat (dma_wanted s.dma))
+dma_served s kept seat request sent e step h =
+    subst (λ wanted. StepStands kept sent (served_dma s seat wanted)) (sym e) (stands_after kept seat sent (answered_dma (accessed s request) seat) step h)
 
 -- all six steps of a cycle without a Fire
 pub cycle_stands : (s at_time after_core0 after_core1 : HubState) (seat : Seat) (now wants : ℕ) (ups : List (Option Up)) (kept : HubKept) (sent : List (Option Down))
@@ -34,7 +53,7 @@ unfolding hub_worked
 cycle_stands s at_time after_core0 after_core1 seat now wants ups kept sent a b c w step = rw (w, c, b, a) at step
 
 -- the steps of a cycle in which a Fire arrives
-pub reset_stands : (s heard shut new : HubState) (k : SeatKept) (seat : Seat) (boot : Boot) (ups : List (Option Up))
-    → heard ≡ arrived s ups → shut ≡ record heard { fronts = closed heard.fronts } → new ≡ hub_reset boot shut.clock shut.memory shut.fronts → boot ≡ seat.boot
-    → SeatStands k (seat_reset seat) → StepStands (record { hub = new; seat = k }) resets (reset_by s seat ups)
-reset_stands s heard shut new k seat boot ups a b d e h = record { hub = rw (d, e, b, a) refl; seat = h; downs = refl }
+pub reset_stands : (s heard shut : HubState) (kept : HubKept) (seat : Seat) (boot : Boot) (ups : List (Option Up))
+    → heard ≡ arrived s ups → shut ≡ record heard { fronts = closed heard.fronts } → kept.hub ≡ hub_reset boot shut.clock shut.memory shut.fronts → boot ≡ seat.boot
+    → SeatStands kept.seat (seat_reset seat) → StepStands kept resets (reset_by s seat ups)
+reset_stands s heard shut kept seat boot ups a b d e h = record { hub = rw (d, e, b, a) refl; seat = h; downs = refl }

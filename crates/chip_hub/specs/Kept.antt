@@ -1,10 +1,12 @@
--- For the contracts of code: what the code of a hub keeps of core 0's seat, and the seats of the definition that it stands for.
+-- For the contracts of code: what the code of a hub keeps of core 0's seat and of the issues, and the seats and issues of the definition that it stands for.
 use Rattle.std.specs.Prelude.{◌≡◌, ℕ, List, Option, Some}
 use Rattle.boot_monitor.specs.Standing.{Stands}
 use Rattle.boot_monitor.specs.declared.exchange.MonitorOut.{MonitorOut}
 use Rattle.boot_monitor.specs.declared.phases.MonitorState.{MonitorState}
 use Rattle.chip_base.specs.declared.boot.Boot.{Boot}
+use Rattle.chip_base.specs.declared.hart.IssueRecord.{IssueRecord}
 use Rattle.chip_base.specs.declared.message.Down.{Down}
+use Rattle.circular_buffer.specs.Buffer.{keep_last}
 use Rattle.chip_hub.specs.Seat.{Seat, asked}
 use Rattle.chip_hub.specs.State.{HubState, HubStep}
 
@@ -22,6 +24,14 @@ pub record SeatKept : Type 0 where
 pub record HubKept : Type 0 where
   pub hub : HubState
   pub seat : SeatKept
+  -- the latest issues, the oldest of them first
+  pub issues : List IssueRecord
+  -- the store that was granted in the last cycle: its address, and the number of its bytes
+  pub stored : Option (ℕ × ℕ)
+
+-- of all issues the latest 1,000 are kept
+abbrev pub IssuesStand : List IssueRecord → List IssueRecord → Type 0
+IssuesStand kept all = kept ≡ keep_last 1000 all
 
 -- the replies aren't kept, but the monitor that they lead to
 pub record SeatStands (kept : SeatKept) (seat : Seat) : Type 0 where

@@ -2,6 +2,7 @@ pub mod Access
 pub mod Cycle
 pub mod Kept
 pub mod Lines
+pub mod Observed
 pub mod Offsets
 pub mod Parts
 pub mod Seat

@@ -1,10 +1,11 @@
--- What a hub shows of its memories, its harts and its boot: a definition.
-use Rattle.std.specs.Prelude.{◌==◌, ℕ, Option, Some, None, Result, Ok, Err, if◌then◌else◌}
+-- What a hub shows of its memories, its harts, its boot and its issues: a definition.
+use Rattle.std.specs.Prelude.{◌==◌, ℕ, List, reverse, slice_get, nat_lt, Option, Some, None, Result, Ok, Err, if◌then◌else◌}
 use Rattle.chip_base.specs.declared.boot.Boot.{Boot}
 use Rattle.chip_base.specs.declared.boot.Boot.TheVariants.{Raw, Direct, Monitor}
 use Rattle.chip_base.specs.declared.boot.BootView.{BootView}
 use Rattle.chip_base.specs.declared.boot.BootView.TheVariants as shown
 use Rattle.chip_base.specs.declared.hart.HartView.{HartView}
+use Rattle.chip_base.specs.declared.hart.IssueRecord.{IssueRecord}
 use Rattle.core_pair.specs.Core.{view_of}
 use Rattle.csr_file.specs.Table.{read_at}
 use Rattle.soc_bus.specs.Memory.{load_of}
@@ -42,3 +43,7 @@ view_by Monitor handed = monitor_view handed
 
 abbrev pub boot_view : Seat → BootView
 boot_view seat = view_by seat.boot seat.handed
+
+-- the issue that lies so many issues before the latest one, by all issues: only the latest 1,000 are shown
+abbrev pub issue_view : List IssueRecord → ℕ → Option IssueRecord
+issue_view issues back = if nat_lt back 1000 then slice_get (reverse issues) back else None

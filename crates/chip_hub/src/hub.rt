@@ -1,14 +1,19 @@
 //! The hub.
 
 use crate::complex::CoreComplex;
+use crate::issues::Issues;
 use crate::seat::Seat;
 use std::marker::Model;
 
-/// The core complex, and core 0's seat in it. In contracts it is seen as the state of a hub and what the code keeps of the seat.
+/// The core complex, core 0's seat in it, and what is kept of the issues and the stores. In contracts it is seen as the state of a hub,
+/// what the code keeps of the seat, the latest issues, and the store that was granted in the last cycle.
 #[derive(Drop)]
 pub struct Hub {
     pub(crate) complex: CoreComplex,
     pub(crate) seat: Seat,
+    pub(crate) issues: Issues,
+    /// The address of the store that was granted in the last cycle, and the number of its bytes.
+    pub(crate) stored: Option<(u32, u8)>,
 }
 
 impl Model for Hub {
@@ -16,5 +21,5 @@ impl Model for Hub {
 
     ghost Value = { HubKept };
 
-    ghost view = { λ h. record { hub = h.complex; seat = h.seat } };
+    ghost view = { λ h. record { hub = h.complex; seat = h.seat; issues = h.issues; stored = h.stored } };
 }

@@ -5,6 +5,7 @@ mod access;
 mod complex;
 mod cycle;
 pub mod hub;
+mod issues;
 mod parts;
 mod seat;
 pub mod start;

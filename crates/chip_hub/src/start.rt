@@ -1,11 +1,12 @@
 //! The hub at power-on, and after a reset.
-ghost use Rattle.std.specs.Prelude.{◌≡◌, ◌≤◌, ◌<◌, ◌^◌, length, true, IfOk};
+ghost use Rattle.std.specs.Prelude.{◌≡◌, ◌≤◌, ◌<◌, ◌^◌, [], length, true, IfOk, None};
 ghost use Rattle.chip_base.specs.Settings.{values_of};
 ghost use Rattle.chip_hub.specs.Kept.{SeatStands};
 ghost use Rattle.chip_hub.specs.Start.{first_bytes, first_core, fits_in, hub_reset, hub_start, seat_start};
 
 use crate::complex::CoreComplex;
 use crate::hub::Hub;
+use crate::issues::Issues;
 use crate::seat::Seat;
 use chip_base::{Boot, NoMemory, Setup};
 use core_pair::{Clint, Core, Mailbox};
@@ -100,16 +101,22 @@ impl CoreComplex {
 impl Hub {
     /// The hub at power-on, where core 0 begins in a boot mode: `Raw` puts the file's bytes into IMEM from address 0 on, `Direct` the
     /// payload of the image that the file must be, and `Monitor` begins the boot monitor in core 0's place, with IMEM all zero. The
-    /// file must fit, as `fits` tells. Where memory is wanting for IMEM or DMEM there is no hub, and nothing stays taken.
+    /// file must fit, as `fits` tells. Nothing is issued or stored yet. Where memory is wanting for IMEM, DMEM or the issues there is no
+    /// hub, and nothing stays taken.
     pub fn new(alloc: Global, setup: &Setup, boot: Boot, image: &[u8]) -> Result<Hub, NoMemory>
         requires { fits_in boot image.now setup.now.imem ≡ true }
         ensures hub { IfOk result (λ hub. hub.hub ≡ hub_start (values_of setup.now) boot image.now) }
         ensures seat { IfOk result (λ hub. SeatStands hub.seat (seat_start (values_of setup.now) boot)) }
+        ensures issues { IfOk result (λ hub. hub.issues ≡ []) }
+        ensures stored { IfOk result (λ hub. hub.stored ≡ None) }
     {
+        let issues = Issues::new(alloc)?;
         let complex = CoreComplex::new(alloc, setup, boot, image)?;
         Ok(Hub {
             complex,
             seat: Seat::new(setup, boot),
+            issues,
+            stored: None,
         })
     }
 }

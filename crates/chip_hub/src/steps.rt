@@ -1,7 +1,7 @@
 //! What the core complex does in the steps of a cycle.
-ghost use Rattle.std.specs.Prelude.{◌≡◌, ◌<◌, ◌≤◌, ◌+◌, ◌^◌, ℕ};
+ghost use Rattle.std.specs.Prelude.{◌≡◌, ◌<◌, ◌≤◌, ◌+◌, ◌^◌, Some};
 ghost use Rattle.chip_hub.specs.Access.{accessed};
-ghost use Rattle.chip_hub.specs.Cycle.{answered_core0, arrived, closed, served_core1, served_dma, timed, turn1};
+ghost use Rattle.chip_hub.specs.Cycle.{answered_core0, answered_core1, answered_dma, arrived, closed, timed, turn1};
 ghost use Rattle.core_pair.specs.Core.{wanted_in};
 ghost use Rattle.core_pair.specs.Turn.{turned};
 ghost use Rattle.dma_unit.specs.DmaRegisters.{dma_wanted};
@@ -9,15 +9,15 @@ ghost use Rattle.chip_hub.specs.Lines.{fast_lines, mip_of};
 ghost use Rattle.chip_hub.specs.Seat.{Seat};
 ghost use Rattle.chip_hub.specs.Units.{messages_in};
 
-use crate::access::SILENT;
 use crate::complex::CoreComplex;
 use chip_base::chip_unit::fast_bit;
-use chip_base::{ChipUnit, Cycle, Down, HubPart, Up};
+use chip_base::{ChipUnit, Cycle, Down, HubPart, IssueRecord, Up};
 use core_pair::Phase;
 use soc_bus::Request;
 
 impl CoreComplex {
     /// What arrives from the units reaches their fronts.
+    #[inline(always)]
     pub(crate) fn hear(&mut self, ups: &[Option<Up>; 7])
         ensures { self.new ≡ arrived self.old ups.now }
     {
@@ -92,17 +92,20 @@ impl CoreComplex {
         self.core0.phase()
     }
 
-    /// Core 0's own turn.
-    pub(crate) fn turn0(&mut self, now: Cycle)
-        ensures { self.new ≡ record self.old { core0 = (turned self.old.core0 now (mip_of self.old 0) self.old.memory).after } }
+    /// Core 0's own turn. Gives what it issues.
+    pub(crate) fn turn0(&mut self, now: Cycle) -> Option<IssueRecord>
+        ensures after { self.new ≡ record self.old { core0 = (turned self.old.core0 now (mip_of self.old 0) self.old.memory).after } }
+        ensures issued { result ≡ (turned self.old.core0 now (mip_of self.old 0) self.old.memory).issued }
     {
         let mip = self.mip(0);
-        self.core0.issue(now, mip, &self.memory);
+        self.core0.issue(now, mip, &self.memory)
     }
 
-    /// Core 1's turn: while it is parked its software interrupt starts it.
-    pub(crate) fn turn1(&mut self, now: Cycle)
-        ensures { self.new ≡ turn1 self.old now }
+    /// Core 1's turn: while it is parked its software interrupt starts it. Gives what it issues.
+    #[tactic(auto, using(crate::proofs::Observed::parked_issues))]
+    pub(crate) fn turn1(&mut self, now: Cycle) -> Option<IssueRecord>
+        ensures after { self.new ≡ turn1 self.old now }
+        ensures issued { result ≡ (turned self.old.core1 now (mip_of self.old 1) self.old.memory).issued }
     {
         match self.core1.phase() {
             Phase::Parked => {
@@ -111,12 +114,27 @@ impl CoreComplex {
                     let sp = self.mailbox.sp();
                     self.core1.start(pc, sp);
                 }
+                None
             }
             _ => {
                 let mip = self.mip(1);
-                self.core1.issue(now, mip, &self.memory);
+                self.core1.issue(now, mip, &self.memory)
             }
         }
+    }
+
+    /// What core 1 wants of the bus.
+    pub(crate) fn want1(&self) -> Option<Request>
+        ensures { result ≡ wanted_in self.now.core1.phase }
+    {
+        self.core1.want()
+    }
+
+    /// What the DMA wants of the bus.
+    pub(crate) fn want2(&self) -> Option<Request>
+        ensures { result ≡ dma_wanted self.now.dma }
+    {
+        self.dma.want()
     }
 
     /// Core 0 is granted the request that it waits for.
@@ -130,26 +148,24 @@ impl CoreComplex {
         access.downs
     }
 
-    pub(crate) fn serve1(&mut self) -> [Option<Down>; 7]
-        ensures step { (seat : Seat) → record { hub = self.new; seat = seat; downs = result } ≡ served_core1 self.old seat (wanted_in self.old.core1.phase) }
+    /// Core 1 is granted the request that it waits for.
+    pub(crate) fn serve1(&mut self, request: &Request) -> [Option<Down>; 7]
+        requires { wanted_in self.old.core1.phase ≡ Some request.now }
+        ensures step { (seat : Seat) → record { hub = self.new; seat = seat; downs = result } ≡ answered_core1 (accessed self.old request.now) seat }
         ensures messages { messages_in result ≤ 1 }
     {
-        let Some(request) = self.core1.want() else {
-            return SILENT;
-        };
-        let access = self.access(&request);
+        let access = self.access(request);
         self.core1.granted(access.answer);
         access.downs
     }
 
-    pub(crate) fn serve2(&mut self) -> [Option<Down>; 7]
-        ensures step { (seat : Seat) → record { hub = self.new; seat = seat; downs = result } ≡ served_dma self.old seat (dma_wanted self.old.dma) }
+    /// The DMA is granted the request that it waits for.
+    pub(crate) fn serve2(&mut self, request: &Request) -> [Option<Down>; 7]
+        requires { dma_wanted self.old.dma ≡ Some request.now }
+        ensures step { (seat : Seat) → record { hub = self.new; seat = seat; downs = result } ≡ answered_dma (accessed self.old request.now) seat }
         ensures messages { messages_in result ≤ 1 }
     {
-        let Some(request) = self.dma.want() else {
-            return SILENT;
-        };
-        let access = self.access(&request);
+        let access = self.access(request);
         self.dma.granted(access.answer);
         access.downs
     }

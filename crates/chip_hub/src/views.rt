@@ -1,13 +1,14 @@
 //! What a hub shows.
-ghost use Rattle.std.specs.Prelude.{◌≡◌, ◌<◌, ◌+◌, length, IfSome, slice_range};
+ghost use Rattle.std.specs.Prelude.{◌≡◌, ◌<◌, ◌+◌, List, length, IfSome, slice_range};
 ghost use Rattle.std.specs.Int.{w32, to_le_bytes};
+ghost use Rattle.chip_base.specs.declared.hart.IssueRecord.{IssueRecord as Record};
 ghost use Rattle.soc_bus.specs.Memory.{IsSize, held_by, place_of};
-ghost use Rattle.chip_hub.specs.Kept.{SeatStands};
+ghost use Rattle.chip_hub.specs.Kept.{IssuesStand, SeatStands};
 ghost use Rattle.chip_hub.specs.Seat.{Seat};
-ghost use Rattle.chip_hub.specs.Views.{boot_view, csr_view, hart_view, word_view};
+ghost use Rattle.chip_hub.specs.Views.{boot_view, csr_view, hart_view, issue_view, word_view};
 
 use crate::hub::Hub;
-use chip_base::{BootView, HartView};
+use chip_base::{BootView, HartView, IssueRecord};
 use soc_bus::Width;
 
 impl Hub {
@@ -65,5 +66,20 @@ impl Hub {
         ensures { (seat : Seat) → SeatStands self.now.seat seat → result ≡ boot_view seat }
     {
         self.seat.view()
+    }
+
+    /// The issue that lies `back` issues before the latest. None exactly where `back` is 1,000 or more, or there is no such issue.
+    pub fn issue(&self, back: u32) -> Option<IssueRecord>
+        ensures { (all : List Record) → IssuesStand self.now.issues all → result ≡ issue_view all back }
+    {
+        self.issues.back(back)
+    }
+
+    /// The address of the store that was granted in the last cycle, and the number of its bytes, whether or not it was refused. None
+    /// exactly where no store was granted.
+    pub fn stored(&self) -> Option<(u32, u8)>
+        ensures { result ≡ self.now.stored }
+    {
+        self.stored
     }
 }

@@ -3,7 +3,7 @@ ghost use Rattle.std.specs.Prelude.{◌≡◌, ℕ, option_map, ◌<◌, ◌≤�
 ghost use Rattle.std.specs.Int.{w32, to_le_bytes};
 ghost use Rattle.chip_base.specs.Settings.{values_of};
 ghost use Rattle.chip_hub.specs.Start.{fits_in};
-ghost use Rattle.chip_hub.specs.Views.{boot_view, csr_view, hart_view, word_view};
+ghost use Rattle.chip_hub.specs.Views.{boot_view, csr_view, hart_view, issue_view, word_view};
 ghost use Rattle.soc_bus.specs.Memory.{IsSize, held_by, place_of};
 ghost use Rattle.chip_whole.specs.Chip.{Board, ChipState, after, events_of, start, tick};
 ghost use Rattle.spi_flash.specs.Flash.{byte_of, flash_at};
@@ -11,7 +11,9 @@ ghost use Rattle.chip_whole.specs.Standing.{ChipStands};
 
 use crate::units::Units;
 use bench_parts::Part;
-use chip_base::{Boot, BootView, Cycle, Event, Groups, HartView, NoMemory, Script, Setup, Steps};
+use chip_base::{
+    Boot, BootView, Cycle, Event, Groups, HartView, IssueRecord, NoMemory, Script, Setup, Steps,
+};
 use chip_hub::Hub;
 use chip_whole::Standing;
 use std::alloc::Global;
@@ -53,6 +55,8 @@ impl Standing for Chip {
       down = c.units.down;
       up = c.units.up;
       cycle = c.units.cycle;
+      issues = c.hub.issues;
+      stored = c.hub.stored;
     }) s };
 
     ghost now = { λ c. c.units.cycle };
@@ -234,6 +238,24 @@ impl Chip {
         ensures { (board : Board) (s : ChipState) → ⟦<Chip as Standing>⟧.stands board self.now s → result ≡ boot_view s.seat }
     {
         self.hub.boot()
+    }
+
+    /// The issue that lies `back` issues before the latest. None exactly where `back` is 1,000 or more, or so far back nothing was
+    /// issued since power-on.
+    #[tactic(auto, unfolding(chip_whole::specs::Standing::ChipStands))]
+    pub fn issues(&self, back: u32) -> Option<IssueRecord>
+        ensures { (board : Board) (s : ChipState) → ⟦<Chip as Standing>⟧.stands board self.now s → result ≡ issue_view s.issues back }
+    {
+        self.hub.issue(back)
+    }
+
+    /// The address of the store that was granted in the last cycle, and the number of its bytes, whether or not it was refused. None
+    /// exactly where no store was granted in it, or no cycle was stepped yet.
+    #[tactic(auto, unfolding(chip_whole::specs::Standing::ChipStands))]
+    pub fn stored(&self) -> Option<(u32, u8)>
+        ensures { (board : Board) (s : ChipState) → ⟦<Chip as Standing>⟧.stands board self.now s → result ≡ s.stored }
+    {
+        self.hub.stored()
     }
 
     /// The cycle that is next to be stepped.

@@ -3,8 +3,8 @@ ghost use Rattle.std.specs.Prelude.{◌≡◌, ◌≤◌, ◌<◌, ◌+◌, ◌^
 
 use bench_parts::{Counter, Part, Scramble};
 use chip_base::{
-    Boot, BootView, Event, EventKind, Groups, NoMemory, PhaseWord, Pins, Script, Setup, Steps,
-    Steps0,
+    Boot, BootView, Event, EventKind, Groups, IssueRecord, NoMemory, PhaseWord, Pins, Script,
+    Setup, Steps, Steps0,
 };
 use chip_net::Chip;
 use chip_whole::Standing;
@@ -128,6 +128,15 @@ fn sees_views<R: Abort + Threads + Sync>(rt: &R, chip: &mut Chip) -> Result<(), 
     assert_eq!(rt; chip.dmem_size(), 65_536);
     // mhartid
     assert_eq!(rt; chip.csr(1, 0xf14), Some(1));
+    let last = IssueRecord {
+        cycle: 58,
+        hart: 0,
+        pc: 0x14,
+        word: 0x6f,
+    };
+    assert!(rt; chip.issues(0) == Some(last));
+    assert!(rt; chip.issues(12).is_some() && chip.issues(13).is_none());
+    assert_eq!(rt; chip.stored(), None);
     Ok(())
 }
 

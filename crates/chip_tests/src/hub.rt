@@ -1,6 +1,6 @@
 //! The hub on short programs.
 
-use chip_base::{Boot, BootView, Cycle, Down, PhaseWord, Setup, Up};
+use chip_base::{Boot, BootView, Cycle, Down, IssueRecord, PhaseWord, Setup, Up};
 use chip_hub::{Hub, fits};
 
 /// addi x1, x0, 5; lui x2, 0x80000; sw x1, 0(x2); jal x0, 0
@@ -48,6 +48,19 @@ const REPLY_INTERRUPT: [u8; 20] = [
 /// lui x1, 0xfffe0; lw x2, 12(x1); jal x0, -4
 const LOAD_OPEN: [u8; 12] = [
     0xb7, 0x00, 0xfe, 0xff, 0x03, 0xa1, 0xc0, 0x00, 0x6f, 0xf0, 0xdf, 0xff,
+];
+
+/// csrrwi x0, mtvec, 8; ecall; and at 8 a word that is no instruction
+const TRAPS: [u8; 12] = [
+    0x73, 0x50, 0x54, 0x30, 0x73, 0x00, 0x00, 0x00, 0xff, 0xff, 0xff, 0xff,
+];
+
+/// lui x1, 0xffed0; lui x2, 0x80000; sw x2, 4(x1); addi x3, x2, 16; sw x3, 8(x1); addi x4, x0, 1; sw x4, 12(x1); sw x4, 0(x1);
+/// jal x0, 0
+const COPY_WORD: [u8; 36] = [
+    0xb7, 0x00, 0xed, 0xff, 0x37, 0x01, 0x00, 0x80, 0x23, 0xa2, 0x20, 0x00, 0x93, 0x01, 0x01, 0x01,
+    0x23, 0xa4, 0x30, 0x00, 0x13, 0x02, 0x10, 0x00, 0x23, 0xa6, 0x40, 0x00, 0x23, 0xa0, 0x40, 0x00,
+    0x6f, 0x00, 0x00, 0x00,
 ];
 
 /// A word that goes up from a unit.
@@ -331,4 +344,157 @@ fn resets_at_the_hand_over(rt: HostRuntime) {
     assert!(&rt; hub.boot() == BootView::Monitor);
     assert!(&rt; hub.hart(0).phase == PhaseWord::Monitor);
     assert!(&rt; hub.word(0) == Some(0x0050_0093));
+}
+
+/// Both harts issue in cycle 18, and hart 0's issue stands first. The store of hart 1 that is refused in cycle 20 is told, and issued.
+#[test]
+fn tells_the_issues_of_both_harts(rt: HostRuntime) {
+    let hub = Hub::new(rt.alloc(), &Setup::standard(), Boot::Raw, &TWO_HARTS);
+    let Ok(mut hub) = hub else {
+        panic!(&rt; "the hub was refused");
+    };
+    assert!(&rt; hub.issue(0).is_none() && hub.stored().is_none());
+    for now in 0..19 {
+        hub.cycle(now, &[None; 7]);
+        let stored = match now {
+            4 => Some((0xfffe_0100, 4)),
+            13 => Some((0xfff4_0004, 4)),
+            _ => None,
+        };
+        assert!(&rt; hub.stored() == stored);
+    }
+    let of_hart_1 = IssueRecord {
+        cycle: 18,
+        hart: 1,
+        pc: 0x44,
+        word: 0x4000_02b7,
+    };
+    let of_hart_0 = IssueRecord {
+        cycle: 18,
+        hart: 0,
+        pc: 0x18,
+        word: 0x1050_0073,
+    };
+    let first = IssueRecord {
+        cycle: 0,
+        hart: 0,
+        pc: 0,
+        word: 0xfffe_00b7,
+    };
+    assert!(&rt; hub.issue(0) == Some(of_hart_1));
+    assert!(&rt; hub.issue(1) == Some(of_hart_0));
+    assert!(&rt; hub.issue(8) == Some(first));
+    assert!(&rt; hub.issue(9).is_none());
+    hub.cycle(19, &[None; 7]);
+    assert!(&rt; hub.stored().is_none());
+    hub.cycle(20, &[None; 7]);
+    assert!(&rt; hub.stored() == Some((0x4000_0000, 4)));
+    let refused = IssueRecord {
+        cycle: 20,
+        hart: 1,
+        pc: 0x48,
+        word: 0x0052_a023,
+    };
+    assert!(&rt; hub.issue(0) == Some(refused));
+}
+
+/// An ecall, which traps, and a word that is no instruction are issued.
+#[test]
+fn tells_issues_that_trap(rt: HostRuntime) {
+    let hub = Hub::new(rt.alloc(), &Setup::standard(), Boot::Raw, &TRAPS);
+    let Ok(mut hub) = hub else {
+        panic!(&rt; "the hub was refused");
+    };
+    for now in 0..10 {
+        hub.cycle(now, &[None; 7]);
+    }
+    let illegal = IssueRecord {
+        cycle: 9,
+        hart: 0,
+        pc: 8,
+        word: 0xffff_ffff,
+    };
+    let call = IssueRecord {
+        cycle: 3,
+        hart: 0,
+        pc: 4,
+        word: 0x73,
+    };
+    assert!(&rt; hub.issue(0) == Some(illegal));
+    assert!(&rt; hub.issue(1) == Some(call));
+    assert!(&rt; hub.csr(0, 0x342) == Some(2));
+    assert!(&rt; hub.csr(0, 0xb02) == Some(1));
+}
+
+/// The monitor issues nothing, and its stores are told: those to CTRL and to DATA of UART0.
+#[test]
+fn tells_no_issue_of_the_monitor(rt: HostRuntime) {
+    let hub = Hub::new(rt.alloc(), &Setup::standard(), Boot::Monitor, &[]);
+    let Ok(mut hub) = hub else {
+        panic!(&rt; "the hub was refused");
+    };
+    for now in 0..25 {
+        hub.cycle(now, &[None; 7]);
+        let stored = match now {
+            8 => Some((0xfff5_0000, 4)),
+            24 => Some((0xfff5_0004, 4)),
+            _ => None,
+        };
+        assert!(&rt; hub.stored() == stored);
+        assert!(&rt; hub.issue(0).is_none());
+    }
+}
+
+/// The DMA reads its word in cycle 24 and stores it in cycle 25, while hart 0 is busy.
+#[test]
+fn tells_a_store_of_the_dma(rt: HostRuntime) {
+    let hub = Hub::new(rt.alloc(), &Setup::standard(), Boot::Raw, &COPY_WORD);
+    let Ok(mut hub) = hub else {
+        panic!(&rt; "the hub was refused");
+    };
+    for now in 0..27 {
+        hub.cycle(now, &[None; 7]);
+        let stored = match now {
+            4 => Some((0xffed_0004, 4)),
+            11 => Some((0xffed_0008, 4)),
+            18 => Some((0xffed_000c, 4)),
+            23 => Some((0xffed_0000, 4)),
+            25 => Some((0x8000_0010, 4)),
+            _ => None,
+        };
+        assert!(&rt; hub.stored() == stored);
+    }
+}
+
+/// Of 1,503 issues the latest 1,000 are kept. In a cycle with a Fire nothing is issued, and no store is told.
+#[test]
+fn keeps_1000_issues(rt: HostRuntime) {
+    let hub = Hub::new(rt.alloc(), &Setup::standard(), Boot::Raw, &LIGHT);
+    let Ok(mut hub) = hub else {
+        panic!(&rt; "the hub was refused");
+    };
+    for now in 0..9 {
+        hub.cycle(now, &[None; 7]);
+    }
+    assert!(&rt; hub.issue(2).is_some() && hub.issue(3).is_none());
+    for now in 9..9009 {
+        hub.cycle(now, &[None; 7]);
+    }
+    let last = IssueRecord {
+        cycle: 9003,
+        hart: 0,
+        pc: 12,
+        word: 0x6f,
+    };
+    let oldest = IssueRecord {
+        cycle: 3009,
+        ..last
+    };
+    assert!(&rt; hub.issue(0) == Some(last));
+    assert!(&rt; hub.issue(999) == Some(oldest));
+    assert!(&rt; hub.issue(1000).is_none() && hub.issue(1001).is_none());
+    let mut ups = [None; 7];
+    ups[6] = Some(Up::FIRE);
+    hub.cycle(9009, &ups);
+    assert!(&rt; hub.issue(0) == Some(last) && hub.stored().is_none());
 }

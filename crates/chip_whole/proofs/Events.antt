@@ -1,5 +1,5 @@
 -- The events of a cycle, and of all cycles.
-use Rattle.std.proofs.Common.{◌≡◌, ◌≤◌, ◌<◌, ℕ, suc, ◌⊎◌, inl, inr, Bool, true, false, eqb, ltb, length, List, [], ◌∷◌, ◌++◌, Option, None, Some, refl, ap, subst, sym, ◌∙◌, arith, append-nil, append_assoc}
+use Rattle.std.proofs.Common.{◌≡◌, ◌≤◌, ℕ, suc, ◌⊎◌, inl, inr, Bool, true, false, eqb, ltb, length, List, [], ◌∷◌, ◌++◌, Option, None, Some, refl, ap, subst, sym, ◌∙◌, append-nil, append_assoc}
 use Rattle.std.specs.Prelude.{if◌then◌else◌, option_to_list}
 use Rattle.bench_parts.specs.Behave.{Behaviour}
 use Rattle.board_units.specs.GpioCycle.{gpio_cycle, outputs_after}
@@ -24,69 +24,15 @@ use Rattle.uart_lane.specs.Cycle.{begun, frame_sent, may_begin, queued, received
 use Rattle.uart_lane.specs.State.{UartState}
 use Rattle.chip_whole.specs.Asked.{events_at}
 use Rattle.chip_whole.specs.Chip.{events_of}
-use Rattle.chip_whole.specs.Order.{AreOrdered, AreOrderedBefore, ArePast, Precedes}
+use Rattle.chip_whole.proofs.Orders.{EndBefore, IsAt, comes_next, later_place, next_cycle}
 
 -- an event, if there is one, is of this unit and cycle
 abbrev pub ToldAt : ℕ → ℕ → Option Event → Type 0
-ToldAt unit now None = Unit {0}
-ToldAt unit now (Some e) = (e.cycle ≡ now) × (e.unit ≡ unit)
-
--- before this unit's place in this cycle
-abbrev pub IsBefore : ℕ → ℕ → Event → Type 0
-IsBefore now unit e = (e.cycle < now) ⊎ ((e.cycle ≡ now) × (e.unit < unit))
-
--- it holds of each event
-abbrev pub EachOf : (Event → Type 0) → List Event → Type 0
-EachOf P [] = Unit {0}
-EachOf P (e ∷ rest) = P e × EachOf P rest
+ToldAt = IsAt (λ (e : Event). e.cycle) (λ (e : Event). e.unit)
 
 -- events in order, all before this unit's place in this cycle
-pub record EndBefore (now unit : ℕ) (events : List Event) : Type 0 where
-  pub order : AreOrdered events
-  pub before : EachOf (IsBefore now unit) events
-
-each_weaker : (P Q : Event → Type 0) → ((e : Event) → P e → Q e) → (events : List Event) → EachOf P events → EachOf Q events
-each_weaker P Q f [] h = tt
-each_weaker P Q f (e ∷ rest) h = (f e h.0, each_weaker P Q f rest h.1)
-
-each_more : (P : Event → Type 0) (events : List Event) (e : Event) → EachOf P events → P e → EachOf P (events ++ e ∷ [])
-each_more P [] e h p = (p, tt)
-each_more P (a ∷ rest) e h p = (h.0, each_more P rest e h.1 p)
-
-order_more : (events : List Event) (e : Event) → AreOrdered events → EachOf (λ a. Precedes a e) events → AreOrdered (events ++ e ∷ [])
-order_more [] e o h = tt
-order_more (a ∷ []) e o h = (h.0, tt)
-order_more (a ∷ b ∷ rest) e o h = (o.0, order_more (b ∷ rest) e o.1 h.1)
-
--- a place further on
-pub later_unit : (now unit more : ℕ) (events : List Event) → unit ≤ more → EndBefore now unit events → EndBefore now more events
-later_unit now unit more events l h = record { order = h.order; before = each_weaker (IsBefore now unit) (IsBefore now more) weaker events h.before }
-  where
-    weaker : (e : Event) → IsBefore now unit e → IsBefore now more e
-    weaker e (inl earlier) = inl earlier
-    weaker e (inr here) = inr (here.0, omega (arith, here.1, l))
-
--- the cycle is over
-pub next_cycle : (now unit : ℕ) (events : List Event) → EndBefore now unit events → EndBefore (suc now) 0 events
-next_cycle now unit events h = record { order = h.order; before = each_weaker (IsBefore now unit) (IsBefore (suc now) 0) weaker events h.before }
-  where
-    weaker : (e : Event) → IsBefore now unit e → IsBefore (suc now) 0 e
-    weaker e (inl earlier) = inl (omega (arith, earlier))
-    weaker e (inr here) = inl (omega (arith, here.0))
-
--- the unit of this place tells its event, or none
-pub told_next : (now unit : ℕ) (events : List Event) (event : Option Event) → ToldAt unit now event → EndBefore now unit events
-    → EndBefore now (suc unit) (events ++ option_to_list event)
-told_next now unit events None t h = rw (append-nil events) (later_unit now unit (suc unit) events (omega arith) h)
-told_next now unit events (Some e) t h = record {
-  order = order_more events e h.order (each_weaker (IsBefore now unit) (λ a. Precedes a e) precedes events h.before);
-  before = each_more (IsBefore now (suc unit)) events e (later_unit now unit (suc unit) events (omega arith) h).before
-      (inr (t.0, omega (arith, t.1)));
-}
-  where
-    precedes : (a : Event) → IsBefore now unit a → Precedes a e
-    precedes a (inl earlier) = inl (omega (arith, earlier, t.0))
-    precedes a (inr here) = inr (omega (arith, here.0, t.0), omega (arith, here.1, t.1))
+abbrev pub TellBefore : ℕ → ℕ → List Event → Type 0
+TellBefore = EndBefore (λ (e : Event). e.cycle) (λ (e : Event). e.unit)
 
 -- the numbers of the units, each above the one before
 abbrev pub Rises : ℕ → List ℕ → Type 0
@@ -102,25 +48,13 @@ AllTold now (n ∷ ns) (e ∷ es) = ToldAt n now e × AllTold now ns es
 
 -- the events of a cycle come behind those before it, by unit
 pub told_all : (now from : ℕ) (numbers : List ℕ) (told : List (Option Event)) (events : List Event) → Rises from numbers → AllTold now numbers told
-    → EndBefore now from events → EndBefore (suc now) 0 (events ++ events_of told)
-told_all now from [] [] events r t h = rw append-nil (next_cycle now from events h)
+    → TellBefore now from events → TellBefore (suc now) 0 (events ++ events_of told)
+told_all now from [] [] events r t h = rw append-nil (next_cycle _ _ now from events h)
 told_all now from [] (e ∷ es) events r t h = absurd t
 told_all now from (n ∷ ns) [] events r t h = absurd t
 told_all now from (n ∷ ns) (e ∷ es) events r t h =
-    subst (λ all. EndBefore (suc now) 0 all) (append_assoc events (option_to_list e) (events_of es))
-    (told_all now (suc n) ns es (events ++ option_to_list e) r.1 t.1 (told_next now n events e t.0 (later_unit now from n events r.0 h)))
-
--- all are in the past before the first unit's place
-pub are_past : (now : ℕ) (events : List Event) → EndBefore now 0 events → AreOrderedBefore now events
-are_past now events h = record { order = h.order; past = all_past events h.before }
-  where
-    past : (e : Event) → IsBefore now 0 e → e.cycle < now
-    past e (inl earlier) = earlier
-    past e (inr here) = absurd (omega (arith, here.1))
-
-    all_past : (events : List Event) → EachOf (IsBefore now 0) events → ArePast now events
-    all_past [] b = tt
-    all_past (e ∷ rest) b = (past e b.0, all_past rest b.1)
+    subst (λ all. TellBefore (suc now) 0 all) (append_assoc events (option_to_list e) (events_of es))
+    (told_all now (suc n) ns es (events ++ option_to_list e) r.1 t.1 (comes_next _ _ now n events e t.0 (later_place _ _ now from n events r.0 h)))
 
 -- the events of one unit
 

@@ -32,13 +32,17 @@ use Rattle.uart_lane.proofs.Counts.{keeps_count}
 use Rattle.uart_lane.proofs.Order.{keeps_order}
 use Rattle.unit_fronts.specs.SerialRegisters.{SerialRegisters}
 use Rattle.chip_whole.specs.Asked.{AsksOnce, events_at}
-use Rattle.chip_whole.specs.Chip.{Board, ChipState, after, arriving, delay_of, events_of, start, tick, told_by_units}
+use Rattle.chip_whole.specs.Chip.{Board, ChipState, after, arrivals, arriving, delay_of, events_of, start, tick, told_by_units}
 use Rattle.chip_whole.specs.Credits.{CreditsHold, HasSixteen, LosesNone, ServesUnit, SpiLosesNone, StreamLosesNone, UartLosesNone, queued_in, waiting_in, words_waiting}
 use Rattle.chip_whole.specs.Joined.{Joined, event_of}
-use Rattle.chip_whole.specs.Order.{AreOrderedBefore}
+use Rattle.chip_whole.specs.Order.{AreOrderedEvents, AreOrderedIssues}
 use Rattle.chip_whole.specs.Sent.{SendsInOrder, bytes_down, fates, sent_down, told_by}
 use Rattle.chip_whole.proofs.Answers.{gpio_answers, pwm_answers, wdt_answers}
-use Rattle.chip_whole.proofs.Events.{AllTold, EndBefore, ToldAt, are_past, at_each, at_more, gpio_tells, pwm_tells, stream_tells, told_all, told_among, uart_tells, wdt_tells}
+use Rattle.chip_whole.proofs.Issues.{issues_next}
+use Rattle.chip_whole.proofs.Orders.{EndBefore, are_past}
+use Rattle.chip_hub.proofs.Numbers.{AreNumbered, cycle_numbers, start_numbered}
+use Rattle.chip_base.specs.declared.hart.IssueRecord.{IssueRecord}
+use Rattle.chip_whole.proofs.Events.{AllTold, TellBefore, ToldAt, at_each, at_more, gpio_tells, pwm_tells, stream_tells, told_all, told_among, uart_tells, wdt_tells}
 use Rattle.chip_whole.proofs.Joins.{awaits_after, awaits_start, serves_after, serves_start}
 use Rattle.chip_whole.proofs.Runs.{cycle_after, kept_after}
 use Rattle.chip_whole.proofs.Sent.{bytes_empty, sends_more, told_more, told_so_far}
@@ -177,7 +181,7 @@ told_here board c unit h = at_each unit c.cycle built (told_in board c) (units_t
 -- the units keep their numbers, and the events are in order
 record EventsStand (c : ChipState) : Type 0 where
   numbers : NumbersStay c
-  events : EndBefore c.cycle 0 c.events
+  events : TellBefore c.cycle 0 c.events
 
 events_tick : (board : Board) (c : ChipState) → EventsStand c → EventsStand (tick board c)
 unfolding tick
@@ -191,13 +195,41 @@ start_events : (v : Values) (boot : Boot) (image : List ℕ) (script : Script) �
 unfolding start
 start_events v boot image script = record { numbers = start_numbers v boot image script; events = record { order = tt; before = tt } }
 
--- in every state that the chip reaches, its events are in order
-pub events_ordered : (board : Board) (v : Values) (boot : Boot) (image : List ℕ) (script : Script) (n : ℕ) → AreOrderedBefore n (after board (start v boot image script) n).events
+-- n cycles after power-on
+time_of : (board : Board) (v : Values) (boot : Boot) (image : List ℕ) (script : Script) (n : ℕ) → (after board (start v boot image script) n).cycle ≡ n
 unfolding start
+time_of board v boot image script n = cycle_after board (start v boot image script) n ∙ omega arith
+
+-- in every state that the chip reaches, its events are in order
+pub events_ordered : (board : Board) (v : Values) (boot : Boot) (image : List ℕ) (script : Script) (n : ℕ) → AreOrderedEvents n (after board (start v boot image script) n).events
 events_ordered board v boot image script n =
     let all : EventsStand (after board (start v boot image script) n) = kept_after board EventsStand (events_tick board) (start v boot image script) n (start_events v boot image script) in
-    let now : (after board (start v boot image script) n).cycle ≡ n = cycle_after board (start v boot image script) n ∙ omega arith in
-    subst (λ cycle. AreOrderedBefore cycle (after board (start v boot image script) n).events) now (are_past _ _ all.events)
+    subst (λ cycle. AreOrderedEvents cycle (after board (start v boot image script) n).events) (time_of board v boot image script n) (are_past _ _ _ _ all.events)
+
+-- issues
+
+-- the harts keep their numbers, and the issues are in order
+record IssuesOrdered (c : ChipState) : Type 0 where
+  numbers : AreNumbered c.hub
+  issues : EndBefore (λ (r : IssueRecord). r.cycle) (λ (r : IssueRecord). r.hart) c.cycle 0 c.issues
+
+issues_tick : (board : Board) (c : ChipState) → IssuesOrdered c → IssuesOrdered (tick board c)
+unfolding tick
+issues_tick board c h = record {
+  numbers = cycle_numbers c.hub c.seat c.cycle (arrivals c) h.numbers;
+  issues = issues_next c.hub c.cycle (arrivals c) c.issues h.numbers h.issues;
+}
+
+start_issues : (v : Values) (boot : Boot) (image : List ℕ) (script : Script) → IssuesOrdered (start v boot image script)
+unfolding start
+start_issues v boot image script = record { numbers = start_numbered v boot image; issues = record { order = tt; before = tt } }
+
+-- in every state that the chip reaches, its issues are in order
+pub issues_ordered : (board : Board) (v : Values) (boot : Boot) (image : List ℕ) (script : Script) (n : ℕ) → AreOrderedIssues n (after board (start v boot image script) n).issues
+issues_ordered board v boot image script n =
+    let c : ChipState = start v boot image script in
+    let all : IssuesOrdered (after board c n) = kept_after board IssuesOrdered (issues_tick board) c n (start_issues v boot image script) in
+    subst (λ cycle. AreOrderedIssues cycle (after board c n).issues) (time_of board v boot image script n) (are_past _ _ _ _ all.issues)
 
 -- bytes
 

@@ -2,9 +2,11 @@ pub mod Answers
 pub mod Credits
 pub mod Events
 pub mod Holds
+pub mod Issues
 pub mod Joins
+pub mod Keeping
 pub mod Next
+pub mod Orders
 pub mod Runs
 pub mod Sent
-pub mod Keeping
 pub mod Words

@@ -10,6 +10,7 @@ use Rattle.board_units.specs.WatchdogCycle.{watchdog_cycle}
 use Rattle.board_units.specs.WatchdogState.{WatchdogState, watchdog_reset}
 use Rattle.chip_base.specs.declared.boot.Boot.{Boot}
 use Rattle.chip_base.specs.declared.event.Event.{Event}
+use Rattle.chip_base.specs.declared.hart.IssueRecord.{IssueRecord}
 use Rattle.chip_base.specs.declared.message.Down.{Down}
 use Rattle.chip_base.specs.declared.message.Up.{Up}
 use Rattle.chip_base.specs.declared.script.Script.{Script}
@@ -19,6 +20,7 @@ use Rattle.chip_base.specs.UnitTable.{link_place, unit_row}
 use Rattle.chip_base.specs.declared.chip_unit.ChipUnit.TheVariants.{Uart0, Uart1, Spi, Gpio, Pwm, Slink, Wdt}
 use Rattle.chip_base.specs.Settings.{Values}
 use Rattle.chip_hub.specs.Cycle.{hub_cycle}
+use Rattle.chip_hub.specs.Observed.{hub_issues, hub_stored}
 use Rattle.chip_hub.specs.Seat.{Seat}
 use Rattle.chip_hub.specs.Start.{hub_start, seat_start}
 use Rattle.chip_hub.specs.State.{HubState, HubStep}
@@ -80,6 +82,14 @@ pub record ChipState : Type 0 where
   pub cycle : ℕ
   -- all events since power-on, by cycle and then by unit
   pub events : List Event
+  -- all issues since power-on, by cycle and then by hart
+  pub issues : List IssueRecord
+  -- the store that was granted in the last cycle: its address, and the number of its bytes
+  pub stored : Option (ℕ × ℕ)
+
+-- what arrives at the hub in the cycle that comes next, by unit
+abbrev pub arrivals : ChipState → List (Option Up)
+arrivals c = arriving c.units (link_first c.slink.up)
 
 -- the chip after a cycle, by what the hub gives in it
 abbrev pub stepped : Board → ChipState → HubStep → ChipState
@@ -90,11 +100,13 @@ stepped board c h = record {
   slink = joined_after (stream_cycle board.part) c.slink c.cycle (get_or h.downs (link_place Slink) None);
   cycle = suc c.cycle;
   events = c.events ++ events_of (told_by_units c.units c.cycle (event_of (stream_cycle board.part) c.slink c.cycle));
+  issues = c.issues ++ hub_issues c.hub c.cycle (arrivals c);
+  stored = hub_stored c.hub c.seat c.cycle (arrivals c);
 }
 
 -- one cycle: the hub and each unit from the state before it
 unfoldable pub tick : Board → ChipState → ChipState
-tick board c = stepped board c (hub_cycle c.hub c.seat c.cycle (arriving c.units (link_first c.slink.up)))
+tick board c = stepped board c (hub_cycle c.hub c.seat c.cycle (arrivals c))
 
 -- the chip after n cycles
 unfoldable pub after : Board → ChipState → ℕ → ChipState
@@ -125,7 +137,7 @@ units_start v image script = record {
   wdt = joined_start watchdog_reset (delay_of v (link_place Wdt));
 }
 
--- the chip at power-on, with core 0's boot mode and the bytes of the file: no event has come
+-- the chip at power-on, with core 0's boot mode and the bytes of the file: no event has come, and nothing is issued or stored yet
 unfoldable pub start : Values → Boot → List ℕ → Script → ChipState
 start v boot image script = record {
   hub = hub_start v boot image;
@@ -134,4 +146,6 @@ start v boot image script = record {
   slink = joined_start stream_start (delay_of v (link_place Slink));
   cycle = 0;
   events = [];
+  issues = [];
+  stored = None;
 }

@@ -10,7 +10,7 @@ use Rattle.soc_words.specs.Link.{all_on, link_first}
 use Rattle.uart_lane.specs.Counts.{bytes_in, bytes_out}
 use Rattle.uart_lane.specs.Cycle.{uart_cycle}
 use Rattle.chip_whole.specs.Asked.{events_at}
-use Rattle.chip_whole.specs.Chip.{Board, ChipState, Units, after, arriving}
+use Rattle.chip_whole.specs.Chip.{Board, ChipState, Units, after, arrivals}
 use Rattle.chip_whole.specs.Joined.{Joined, event_of}
 use Rattle.uart_lane.specs.State.{UartState}
 
@@ -24,7 +24,7 @@ told_by unit events = map (λ (e : Event). e.value) (events_at unit events)
 
 -- what the hub sends down to a unit in the next cycle, by the unit's place
 abbrev pub sent_down : ChipState → ℕ → Option Down
-sent_down c place = get_or (hub_cycle c.hub c.seat c.cycle (arriving c.units (link_first c.slink.up))).downs place None
+sent_down c place = get_or (hub_cycle c.hub c.seat c.cycle (arrivals c)).downs place None
 
 -- the bytes that were sent down to a unit in n cycles
 unfoldable pub bytes_down : Board → ChipState → ℕ → ℕ → List ℕ
