@@ -1,6 +1,8 @@
 -- What the readings of a job may come to.
 use Rattle.std.proofs.Common.{◌≡◌, ℕ, Bool, true, false, cond, List, Option, Some, None, Result, Ok, Err, refl}
 use Rattle.std.specs.Str.{is_utf8}
+use Rattle.bench_debug.specs.CommandFile.{commands_of}
+use Rattle.bench_debug.specs.declared.command.Command.{Command}
 use Rattle.bench_plan.proofs.Ends.{ends_then}
 use Rattle.bench_plan.specs.Ends.{Ends, EndsBoth}
 use Rattle.bench_plan.specs.Readings.{Refusal, judged}
@@ -16,8 +18,8 @@ use Rattle.script_text.specs.ScriptFile.{script_of}
 use Rattle.script_text.specs.declared.chip.KeyFault.{KeyFault}
 use Rattle.script_text.specs.declared.chip.KeyFault.TheVariants.{Key, Range}
 use Rattle.script_text.specs.declared.script_fault.ScriptFault.{ScriptFault}
-use Rattle.bench_inputs.specs.Inputs.{boot_fault, imem_step, image_in, image_reading, meaning, payload_fault, room_reading, script_in, script_read, script_reading, settings_in, settings_of, settings_reading, unless, wrapped_in, wrapped_reading}
-use Rattle.bench_inputs.specs.Lines.{image_refusal, key_refusal, toml_refusal}
+use Rattle.bench_inputs.specs.Inputs.{boot_fault, commands_in, commands_read, commands_reading, imem_step, image_in, image_reading, meaning, payload_fault, room_reading, script_in, script_read, script_reading, settings_in, settings_of, settings_reading, unless, wrapped_in, wrapped_reading}
+use Rattle.bench_inputs.specs.Lines.{command_refusal, image_refusal, key_refusal, toml_refusal}
 
 -- any value
 abbrev pub Any : {A : Type 0} → A → Type 0
@@ -71,6 +73,27 @@ script_read_ends (Err f) = refl
 pub script_ends : (name : Option (List ℕ)) → Ends Any (HasStatus 5) (script_reading name)
 script_ends None = tt
 script_ends (Some name) = λ b. judged_ends Any (HasStatus 5) (script_in b) (script_read_ends (script_of b))
+
+-- a command file is refused with 10
+commands_read_ends : (r : Result (List Command) ℕ) → EndsBoth Any (HasStatus 10) (commands_read r)
+commands_read_ends (Ok s) = tt
+commands_read_ends (Err n) = refl
+
+pub commands_ends : (name : List ℕ) → Ends Any (HasStatus 10) (commands_reading name)
+commands_ends name = λ b. judged_ends Any (HasStatus 10) (commands_in b) (commands_read_ends (commands_of b))
+
+-- a command file that is refused has a faulty line, and the line of the refusal tells it
+pub commands_refusal : (h : Held) (name : List ℕ) (f : Refusal) → Comes h (commands_reading name) (Err f)
+    → (bytes : List ℕ) × (number : ℕ) × IsRead h name 65536 bytes × (commands_of bytes ≡ Err number) × (f ≡ command_refusal number)
+commands_refusal h name f c = let told = by_line (commands_of c.0) refl c.2 in (c.0, told.0, c.1, told.1, told.2)
+  where
+    err_same : {a b : Refusal} → ◌≡◌ {A = Result (List Command) Refusal} (Err a) (Err b) → a ≡ b
+    err_same e = cc
+
+    by_line : (r : Result (List Command) ℕ) → commands_of c.0 ≡ r → Comes h (judged (commands_read r)) (Err f)
+        → (number : ℕ) × (commands_of c.0 ≡ Err number) × (f ≡ command_refusal number)
+    by_line (Ok commands) e k = absurd (cc)
+    by_line (Err number) e k = (number, e, err_same k)
 
 -- an image or a payload that is refused has a fault, and the line tells it
 pub file_refusal : {A : Type 0} (h : Held) (found : List ℕ → Option ImageFault) (given : List ℕ → A) (name : List ℕ) (f : Refusal)

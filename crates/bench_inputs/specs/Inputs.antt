@@ -1,6 +1,8 @@
 -- Definition: what the files of a job mean, and what is read for each.
 use Rattle.std.specs.Prelude.{◌==◌, ℕ, List, length, Option, Some, None, Result, Ok, Err, nat_lt, if◌then◌else◌}
 use Rattle.std.specs.Str.{is_utf8}
+use Rattle.bench_debug.specs.CommandFile.{commands_of}
+use Rattle.bench_debug.specs.declared.command.Command.{Command}
 use Rattle.bench_plan.specs.Readings.{Refusal, Reading, asking, followed, gives, judged}
 use Rattle.chip_base.specs.Settings.{Values, standard}
 use Rattle.chip_base.specs.declared.boot.Boot.{Boot}
@@ -14,7 +16,7 @@ use Rattle.script_text.specs.ChipFile.{chip_of}
 use Rattle.script_text.specs.Faults.{KeyFaultAt as AtKey, faulty_key}
 use Rattle.script_text.specs.ScriptFile.{empty, script_of}
 use Rattle.script_text.specs.declared.script_fault.ScriptFault.{ScriptFault}
-use Rattle.bench_inputs.specs.Lines.{image_refusal, key_refusal, line_refusal, toml_refusal}
+use Rattle.bench_inputs.specs.Lines.{command_refusal, image_refusal, key_refusal, line_refusal, toml_refusal}
 
 abbrev pub settings_of : Option (Result Values AtKey) → Result Values Refusal
 settings_of None = Err toml_refusal
@@ -61,6 +63,14 @@ script_read (Err fault) = Err (line_refusal fault)
 abbrev pub script_in : List ℕ → Result Script Refusal
 script_in bytes = script_read (script_of bytes)
 
+abbrev pub commands_read : Result (List Command) ℕ → Result (List Command) Refusal
+commands_read (Ok commands) = Ok commands
+commands_read (Err number) = Err (command_refusal number)
+
+-- a file of commands must have no faulty line
+abbrev pub commands_in : List ℕ → Result (List Command) Refusal
+commands_in bytes = commands_read (commands_of bytes)
+
 -- a file of at most so many bytes is read, and then judged
 abbrev pub meaning : {A : Type 0} → ℕ → (List ℕ → Result A Refusal) → List ℕ → Reading A
 meaning limit means name = followed (asking name limit) (λ bytes. judged (means bytes))
@@ -90,3 +100,7 @@ wrapped_reading room name = meaning 2097152 (wrapped_in room) name
 abbrev pub script_reading : Option (List ℕ) → Reading Script
 script_reading None = gives empty
 script_reading (Some name) = meaning 1048576 script_in name
+
+-- the commands of the debugger
+abbrev pub commands_reading : List ℕ → Reading (List Command)
+commands_reading name = meaning 65536 commands_in name

@@ -49,11 +49,18 @@ fault_kind_name kind.Memory = codes "memory"
 unfoldable pub line_text : ScriptFault → List ℕ
 line_text fault = line (codes "error script line " ++ decimal fault.line ++ codes " " ++ fault_kind_name fault.kind)
 
+-- the first faulty line of a file of commands
+unfoldable pub command_text : ℕ → List ℕ
+command_text number = line (codes "error debug line " ++ decimal number)
+
 abbrev pub image_refusal : ImageFault → Refusal
 image_refusal fault = record { status = 4; text = image_fault_text fault }
 
 abbrev pub line_refusal : ScriptFault → Refusal
 line_refusal fault = record { status = 5; text = line_text fault }
+
+abbrev pub command_refusal : ℕ → Refusal
+command_refusal number = record { status = 10; text = command_text number }
 
 abbrev pub toml_refusal : Refusal
 toml_refusal = record { status = 6; text = toml_text }

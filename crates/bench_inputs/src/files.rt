@@ -1,11 +1,12 @@
 //! The files of a job, read and judged one by one.
 ghost use Rattle.std.specs.Prelude.{◌≡◌, ◌%◌, ◌≤◌, IfOk, None, length, option_map};
 ghost use Rattle.chip_base.specs.Settings.{values_of};
-ghost use Rattle.bench_inputs.specs.Inputs.{boot_fault, image_reading, room_reading, script_reading, settings_reading, wrapped_reading};
+ghost use Rattle.bench_inputs.specs.Inputs.{boot_fault, commands_reading, image_reading, room_reading, script_reading, settings_reading, wrapped_reading};
 ghost use Rattle.bench_plan.specs.Steps.{Reads, mapped};
 ghost use Rattle.script_text.specs.ScriptFile.{empty};
 
-use crate::judge::{judge_chip, judge_image, judge_script, wrap_payload};
+use crate::judge::{judge_chip, judge_commands, judge_image, judge_script, wrap_payload};
+use bench_debug::Commands;
 use bench_plan::{Stop, fetch};
 use bench_shelf::Shelf;
 use chip_base::{Boot, Pins, Script, Setup, Steps0};
@@ -93,4 +94,16 @@ pub fn read_script_file<S: Shelf>(
     };
     let text = fetch(alloc, name, 1_048_576, shelf)?;
     judge_script(alloc, &text)
+}
+
+/// The commands of the debugger: the file of this name, of at most 65,536 bytes.
+pub fn read_commands_file<S: Shelf>(
+    alloc: Global,
+    name: &str,
+    shelf: &mut S,
+) -> Result<Commands, Stop>
+    ensures { Reads S.held shelf.old shelf.new (commands_reading name.now) result }
+{
+    let text = fetch(alloc, name, 65_536, shelf)?;
+    judge_commands(alloc, &text)
 }

@@ -2,11 +2,12 @@
 ghost use Rattle.std.specs.Prelude.{◌≡◌, ◌%◌, ◌^◌, ◌<◌, ◌≤◌, IfOk, None, Option, length};
 ghost use Rattle.chip_base.specs.Settings.{values_of};
 ghost use Rattle.image_tool.specs.declared.faults.ImageFault.{ImageFault};
-ghost use Rattle.bench_inputs.specs.Inputs.{boot_fault, image_in, script_in, settings_in, wrapped_in};
+ghost use Rattle.bench_inputs.specs.Inputs.{boot_fault, commands_in, image_in, script_in, settings_in, wrapped_in};
 ghost use Rattle.bench_inputs.specs.Lines.{toml_refusal};
 ghost use Rattle.bench_plan.specs.Steps.{IsRefusal, Judges, mapped};
 
-use crate::lines::{image_refused, line_refused, range_refused};
+use crate::lines::{command_refused, image_refused, line_refused, range_refused};
+use bench_debug::{CommandFault, Commands, read_commands};
 use bench_plan::{Stop, refused};
 use chip_base::{Boot, Script, Setup};
 use image_tool::{ImageFault, check, wrap};
@@ -100,5 +101,17 @@ pub fn judge_script(alloc: Global, text: &[u8]) -> Result<Script, Stop>
             ScriptKind::Memory => Err(Stop::Memory),
             _ => Err(line_refused(alloc, &fault)),
         },
+    }
+}
+
+/// The commands that a text of fewer than 2^32 bytes gives.
+pub fn judge_commands(alloc: Global, text: &[u8]) -> Result<Commands, Stop>
+    requires { length text.now < 2 ^ 32 }
+    ensures { Judges (commands_in text.now) result }
+{
+    match read_commands(alloc, text) {
+        Ok(commands) => Ok(commands),
+        Err(CommandFault::Line { line }) => Err(command_refused(alloc, line)),
+        Err(CommandFault::Memory) => Err(Stop::Memory),
     }
 }

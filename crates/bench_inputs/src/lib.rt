@@ -5,4 +5,6 @@ mod files;
 mod judge;
 mod lines;
 
-pub use files::{read_image, read_payload, read_room, read_script_file, read_settings};
+pub use files::{
+    read_commands_file, read_image, read_payload, read_room, read_script_file, read_settings,
+};

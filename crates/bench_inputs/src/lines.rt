@@ -1,7 +1,7 @@
 //! The lines of refusals.
 ghost use Rattle.std.specs.Prelude.{◌≡◌, ℕ, ◌+◌, ◌≤◌, ◌++◌, List, IfOk, codes, length};
 ghost use Rattle.soc_words.specs.Text.{line};
-ghost use Rattle.bench_inputs.specs.Lines.{fault_kind_name, image_fault_text, image_refusal, line_refusal, line_text, range_text};
+ghost use Rattle.bench_inputs.specs.Lines.{command_refusal, command_text, fault_kind_name, image_fault_text, image_refusal, line_refusal, line_text, range_text};
 ghost use Rattle.bench_plan.specs.Steps.{IsRefusal};
 
 use bench_plan::{Refusal, Stop, refused};
@@ -108,4 +108,23 @@ pub fn line_refused(alloc: Global, fault: &ScriptFault) -> Stop
     ensures { IsRefusal (line_refusal fault.now) result }
 {
     refused(alloc, 5, fault_line(fault).as_slice())
+}
+
+/// The line of a command file's first faulty line.
+#[tactic(auto, unfolding(crate::specs::Lines::command_text))]
+fn command_line(number: u32) -> Line
+    ensures { result ≡ command_text number }
+{
+    let mut line = Line::new();
+    line.push(b"error debug line ");
+    line.push_number(u64::from(number));
+    line.push(b"\n");
+    line
+}
+
+/// Refuses a command file by its first faulty line, counted from 1.
+pub fn command_refused(alloc: Global, number: u32) -> Stop
+    ensures { IsRefusal (command_refusal number) result }
+{
+    refused(alloc, 10, command_line(number).as_slice())
 }

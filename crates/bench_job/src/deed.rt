@@ -2,17 +2,18 @@
 ghost use Rattle.std.specs.Prelude.{List, map, string_bytes};
 ghost use Rattle.bench_parts.specs.Attached.{HandedPart};
 ghost use Rattle.bench_plan.specs.Steps.{IsRefusal, Reads, mapped};
-ghost use Rattle.bench_words.specs.Jobs.{checking_view, job_of, job_view, making_view, run_view};
-ghost use Rattle.bench_job.specs.Plans.{checking_plan, done_of, job_plan, making_plan, plan_of, run_plan, usage_refusal};
+ghost use Rattle.bench_words.specs.Jobs.{checking_view, debug_view, job_of, job_view, making_view, run_view};
+ghost use Rattle.bench_job.specs.Plans.{checking_plan, debug_plan, done_of, job_plan, making_plan, plan_of, run_plan, usage_refusal};
 
 use crate::files::read_power_on;
 use crate::image_line::image_line;
 use crate::power_on::PowerOn;
-use bench_inputs::{read_image, read_payload, read_room};
+use bench_debug::Commands;
+use bench_inputs::{read_commands_file, read_image, read_payload, read_room};
 use bench_parts::NamedPart;
 use bench_plan::{Stop, refused};
 use bench_shelf::Shelf;
-use bench_words::{CheckJob, ImageJob, Job, RunJob, read_job};
+use bench_words::{CheckJob, DebugJob, ImageJob, Job, RunJob, read_job};
 use chip_base::{Boot, Groups, NoMemory};
 use std::alloc::Global;
 use text_line::Line;
@@ -30,13 +31,28 @@ pub enum Deed<'a> {
         bytes: Vec<u8>,
         text: Line,
     },
-    /// A run of this many cycles from power-on, and its report, with the part of this name, where one is asked for. How the lanes are
-    /// grouped doesn't change it.
+    /// A run of this many cycles from power-on, and its report, with the part of this name, where one is asked for, and at most so many
+    /// issues. How the lanes are grouped doesn't change it.
     Report {
         power_on: PowerOn,
         groups: Groups,
         cycles: u32,
         part: Option<&'a str>,
+        trace: u32,
+    },
+    /// A session of the debugger from power-on, up to a bound, with the part of this name, where one is asked for. How the lanes are
+    /// grouped doesn't change it.
+    Debug {
+        power_on: PowerOn,
+        groups: Groups,
+        bound: u32,
+        part: Option<&'a str>,
+        commands: Commands,
+    },
+    /// The demo of a number. How the lanes are grouped doesn't change it.
+    Demo {
+        number: u32,
+        groups: Groups,
     },
 }
 
@@ -54,6 +70,26 @@ fn decide_run<'a, S: Shelf>(
         groups: job.groups,
         cycles: job.cycles,
         part: job.part,
+        trace: job.trace,
+    })
+}
+
+/// Reads the files of a session of the debugger.
+fn decide_debug<'a, S: Shelf>(
+    alloc: Global,
+    job: &DebugJob<'a>,
+    shelf: &mut S,
+) -> Result<Deed<'a>, Stop>
+    ensures { (handed : List HandedPart) → Reads S.held shelf.old shelf.new (debug_plan handed (debug_view job.now)) (mapped (done_of handed) result) }
+{
+    let power_on = read_power_on(alloc, &job.run, shelf)?;
+    let commands = read_commands_file(alloc, job.commands, shelf)?;
+    Ok(Deed::Debug {
+        power_on,
+        groups: job.run.groups,
+        bound: job.run.cycles,
+        part: job.run.part,
+        commands,
     })
 }
 
@@ -95,6 +131,11 @@ fn decide_job<'a, S: Shelf>(alloc: Global, job: &Job<'a>, shelf: &mut S) -> Resu
 {
     match job {
         Job::Run(job) => decide_run(alloc, job, shelf),
+        Job::Debug(job) => decide_debug(alloc, job, shelf),
+        Job::Demo(job) => Ok(Deed::Demo {
+            number: job.number,
+            groups: job.groups,
+        }),
         Job::Image(job) => decide_image(alloc, job, shelf),
         Job::Check(job) => decide_check(alloc, job, shelf),
     }

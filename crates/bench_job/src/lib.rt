@@ -6,6 +6,7 @@ mod deed;
 mod files;
 mod image_line;
 mod power_on;
+mod session;
 mod tell;
 
 pub use call::perform;

@@ -9,7 +9,8 @@ use Rattle.chip_whole.specs.Chip.{Board, ChipState, after}
 use Rattle.chip_whole.specs.Next.{next_events}
 use Rattle.chip_whole.proofs.Next.{next_sum}
 use Rattle.chip_whole.proofs.Runs.{after_sum}
-use Rattle.bench_report.specs.Report.{event_text, events_text}
+use Rattle.trace_text.specs.Lines.{event_text}
+use Rattle.bench_report.specs.Report.{events_text}
 
 text_more : (board : Board) (s : ChipState) (m n total : ℕ) → m + n ≡ total
     → events_text (next_events board s m) ++ events_text (next_events board (after board s m) n) ≡ events_text (next_events board s total)

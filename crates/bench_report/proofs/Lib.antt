@@ -2,3 +2,4 @@ pub mod Events
 pub mod Going
 pub mod Rows
 mod FlashRows
+mod Traces

@@ -1,18 +1,16 @@
 //! The bytes of the flash, row by row.
-ghost use Rattle.std.specs.Prelude.{◌≡◌, ◌+◌, ◌*◌, ◌<◌, ◌≤◌, ◌^◌, ◌==◌, ◌++◌, ℕ, List, codes, true};
+ghost use Rattle.std.specs.Prelude.{◌≡◌, ◌<◌, ◌^◌, ◌==◌, true};
 ghost use Rattle.std.specs.List.{list_all};
-ghost use Rattle.hex.specs.Hex.{encode_lower};
-ghost use Rattle.soc_words.specs.Text.{hex_word, joined_below, line};
+ghost use Rattle.soc_words.specs.Text.{joined_below};
 ghost use Rattle.bench_shelf.specs.Sink.{Writes};
 ghost use Rattle.bench_report.specs.Report.{flash_row, flash_row_in, flash_row_text, flash_rows, flash_text, shown_flash};
 ghost use Rattle.chip_whole.specs.Stands.{ForEach};
 ghost use Rattle.spi_flash.specs.Flash.{byte_of};
 
-use crate::report::put_line;
 use bench_shelf::{Sink, SinkFault};
 use chip_net::Chip;
 use chip_whole::Standing;
-use text_line::Line;
+use trace_text::{RowKind, row_line};
 
 /// The byte of a fitted flash at an address.
 fn byte(chip: &Chip, at: u32) -> u8
@@ -51,26 +49,13 @@ fn row(chip: &Chip, number: u32) -> [u8; 16]
     ]
 }
 
-/// The line of a row of sixteen bytes that isn't all ff.
-fn row_line(address: u32, row: &[u8; 16]) -> Line
-    ensures { result ≡ line (codes "flash " ++ hex_word address ++ codes " " ++ encode_lower row.now) }
-{
-    let mut line = Line::new();
-    line.push(b"flash ");
-    line.push_word(address);
-    line.push(b" ");
-    line.push_bytes_hex(row);
-    line.push(b"\n");
-    line
-}
-
 fn is_erased(row: &[u8; 16]) -> bool
     ensures { result ≡ list_all (λ b. b == 255) row.now }
 {
     row.iter().all(|b| *b == 0xff)
 }
 
-/// Writes the line of a row, and nothing where all its bytes are ff.
+/// Writes the line of a row of the flash, and nothing where all its bytes are ff.
 #[tactic(auto, using(bench_shelf::proofs::Writing::writes_begin), unfolding(crate::specs::Report::flash_row_text))]
 fn put_row<O: Sink>(address: u32, row: &[u8; 16], out: &mut O) -> Result<(), SinkFault>
     ensures { Writes O.written O.faults out.old out.new (flash_row_text address row.now) result }
@@ -78,7 +63,7 @@ fn put_row<O: Sink>(address: u32, row: &[u8; 16], out: &mut O) -> Result<(), Sin
     if is_erased(row) {
         return Ok(());
     }
-    put_line(&row_line(address, row), out)
+    row_line(RowKind::Flash, address, row, out)
 }
 
 /// Writes the lines of a fitted flash: from its end on all rows are ff.

@@ -4,6 +4,8 @@
 mod bank;
 mod flash_rows;
 mod report;
+mod trace;
 mod whole;
 
+pub use report::boot_line;
 pub use whole::report_run;

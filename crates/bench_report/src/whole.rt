@@ -9,7 +9,7 @@ ghost use Rattle.chip_whole.specs.Chip.{after, start};
 ghost use Rattle.chip_whole.specs.Next.{next_events};
 ghost use Rattle.chip_whole.specs.Stands.{ForEach, IsStepped};
 
-use crate::report::{boot_line, cycles_line, put_events, put_harts, put_line, put_tail};
+use crate::report::{boot_line, cycles_line, put_events, put_harts, put_tail};
 use bench_parts::Part;
 use bench_shelf::{Sink, SinkFault};
 use chip_base::{Boot, Groups, Script, Setup, Steps};
@@ -19,6 +19,7 @@ use std::alloc::Global;
 use std::marker::Brand;
 use std::sync::ledger::{Blank, Ledger};
 use std::thread::Threads;
+use trace_text::put_line;
 
 /// The cycles of a whole stretch.
 const STRETCH: u32 = 4_096;
@@ -82,25 +83,26 @@ fn put_head<R: Threads + Sync, O: Sink>(
     put_line(&boot_line(chip.boot()), out)
 }
 
-/// Steps a chip at power-on this many cycles, and writes its report.
+/// Steps a chip at power-on this many cycles, and writes its report with the latest `trace` issues.
 fn report_chip<R: Threads + Sync, O: Sink>(
     rt: &R,
     chip: &mut Chip,
     cycles: u32,
+    trace: u32,
     out: &mut O,
 ) -> Result<(), SinkFault>
     requires first { ⟦<Chip as Standing>⟧.now chip.old ≡ 0 }
     ensures { ForEach ⟦<Chip as Standing>⟧.stands chip.old (λ board s. s.events ≡ []
-        → Writes O.written O.faults out.old out.new (report (shown (after board s cycles) cycles)) result) }
+        → Writes O.written O.faults out.old out.new (report (shown (after board s cycles) cycles trace)) result) }
 {
     put_head(rt, chip, cycles, out)?;
     put_harts(&chip.hart(0), &chip.hart(1), out)?;
-    put_tail(chip, out)
+    put_tail(chip, trace, out)
 }
 
 /// Runs a chip this many cycles from power-on, where core 0 begins in a boot mode with a file, which must fit, as `fits` of chip_hub
-/// tells, and the stream link is fitted with a part, if there is one; and writes its report. How the lanes are grouped doesn't change
-/// it.
+/// tells, and the stream link is fitted with a part, if there is one; and writes its report, with the latest `trace` issues or all where
+/// there are fewer, and never more than 1,000. How the lanes are grouped doesn't change it.
 pub fn report_run<R: Threads + Sync, O: Sink>(
     rt: &R,
     alloc: Global,
@@ -111,14 +113,15 @@ pub fn report_run<R: Threads + Sync, O: Sink>(
     part: Option<Box<dyn Part + Send>>,
     groups: &Groups,
     cycles: u32,
+    trace: u32,
     out: &mut O,
 ) -> Result<(), SinkFault>
     requires { fits_in boot image.items setup.now.imem ≡ true }
     ensures { Writes O.written O.faults out.old out.new
-        (report (shown (after (record { part = option_map (λ b. behave b) part }) (start (values_of setup.now) boot image.items script) cycles) cycles)) result }
+        (report (shown (after (record { part = option_map (λ b. behave b) part }) (start (values_of setup.now) boot image.items script) cycles) cycles trace)) result }
 {
     match Chip::new(alloc, setup, boot, image, script, part, groups) {
-        Ok(mut chip) => report_chip(rt, &mut chip, cycles, out),
+        Ok(mut chip) => report_chip(rt, &mut chip, cycles, trace, out),
         Err(_) => Err(SinkFault::Memory),
     }
 }

@@ -37,7 +37,16 @@ command name positionals options = fold with_option (fold with_positional (bare 
 -- `run IMAGE CYCLES`, with its options
 abbrev pub run_app : App
 run_app = command (codes "run") (codes "IMAGE" ∷ codes "CYCLES" ∷ [])
+    (codes "boot" ∷ codes "chip" ∷ codes "script" ∷ codes "groups" ∷ codes "part" ∷ codes "trace" ∷ [])
+
+-- `debug IMAGE CYCLES COMMANDS`, with its options
+abbrev pub debug_app : App
+debug_app = command (codes "debug") (codes "IMAGE" ∷ codes "CYCLES" ∷ codes "COMMANDS" ∷ [])
     (codes "boot" ∷ codes "chip" ∷ codes "script" ∷ codes "groups" ∷ codes "part" ∷ [])
+
+-- `demo NUMBER`, with its option
+abbrev pub demo_app : App
+demo_app = command (codes "demo") (codes "NUMBER" ∷ []) (codes "groups" ∷ [])
 
 -- `image PAYLOAD OUT`, with its option
 abbrev pub image_app : App

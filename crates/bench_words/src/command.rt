@@ -1,7 +1,7 @@
 //! Commands, as `clap` reads their words.
 ghost use Rattle.std.specs.Prelude.{◌≡◌, [], IfOk, Some, None, fold, map, option_map, string_bytes, true};
 ghost use Rattle.clap.specs.Words.{app_of, found_of, first_of, is_simple_and_free, rows_of};
-ghost use Rattle.bench_words.specs.Apps.{bare, check_app, image_app, rows_taken, run_app, with_option, with_positional};
+ghost use Rattle.bench_words.specs.Apps.{bare, check_app, debug_app, demo_app, image_app, rows_taken, run_app, with_option, with_positional};
 
 use chip_base::NoMemory;
 use clap::error::ErrorKind;
@@ -83,7 +83,7 @@ fn command_of<'a>(
 
 static RUN_POSITIONALS: [&str; 2] = ["IMAGE", "CYCLES"];
 
-static RUN_OPTIONS: [&str; 5] = ["boot", "chip", "script", "groups", "part"];
+static RUN_OPTIONS: [&str; 6] = ["boot", "chip", "script", "groups", "part", "trace"];
 
 /// The command `run`.
 pub fn run_command<'a>(alloc: Global) -> Result<Command<'a>, AllocError>
@@ -94,6 +94,38 @@ pub fn run_command<'a>(alloc: Global) -> Result<Command<'a>, AllocError>
         "run",
         RUN_POSITIONALS.as_slice(),
         RUN_OPTIONS.as_slice(),
+    )
+}
+
+static DEBUG_POSITIONALS: [&str; 3] = ["IMAGE", "CYCLES", "COMMANDS"];
+
+static DEBUG_OPTIONS: [&str; 5] = ["boot", "chip", "script", "groups", "part"];
+
+/// The command `debug`.
+pub fn debug_command<'a>(alloc: Global) -> Result<Command<'a>, AllocError>
+    ensures { IfOk result (λ c. app_of c ≡ debug_app) }
+{
+    command_of(
+        alloc,
+        "debug",
+        DEBUG_POSITIONALS.as_slice(),
+        DEBUG_OPTIONS.as_slice(),
+    )
+}
+
+static DEMO_POSITIONALS: [&str; 1] = ["NUMBER"];
+
+static DEMO_OPTIONS: [&str; 1] = ["groups"];
+
+/// The command `demo`.
+pub fn demo_command<'a>(alloc: Global) -> Result<Command<'a>, AllocError>
+    ensures { IfOk result (λ c. app_of c ≡ demo_app) }
+{
+    command_of(
+        alloc,
+        "demo",
+        DEMO_POSITIONALS.as_slice(),
+        DEMO_OPTIONS.as_slice(),
     )
 }
 

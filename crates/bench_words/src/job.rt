@@ -3,10 +3,13 @@ ghost use Rattle.std.specs.Prelude.{◌≡◌, [], IfOk, Some, None, map, option
 ghost use Rattle.std.specs.List.{list_any};
 ghost use Rattle.std.specs.Str.{bytes_eq};
 ghost use Rattle.clap.specs.Words.{found_of, is_simple_and_free, rows_of};
-ghost use Rattle.bench_words.specs.Apps.{check_app, image_app, rows_taken, run_app};
-ghost use Rattle.bench_words.specs.Jobs.{checking_from, checking_job, checking_of, checking_view, boot_named, boot_or_monitor, cycles_of, groups_or_all, job_named, job_of, job_view, making_from, making_job, making_of, making_view, part_named, run_from, run_job, run_of, run_view};
+ghost use Rattle.bench_words.specs.Apps.{check_app, debug_app, demo_app, image_app, rows_taken, run_app};
+ghost use Rattle.bench_words.specs.Jobs.{boot_named, boot_or_monitor, checking_from, checking_job, checking_of, checking_view, debug_from, debug_job, debug_of, debug_view, demo_from, demo_job, demo_of, demo_view, groups_or_all, job_named, job_of, job_view, making_from, making_job, making_of, making_view, part_named, run_from, run_job, run_view, run_with, trace_or_none, u32_of};
 
-use crate::command::{check_command, image_command, matches_of_words, run_command, text_of};
+use crate::command::{
+    check_command, debug_command, demo_command, image_command, matches_of_words, run_command,
+    text_of,
+};
 use bench_parts::NamedPart;
 use chip_base::{Boot, Groups, NoMemory};
 use clap::ArgMatches;
@@ -30,6 +33,26 @@ pub struct RunJob<'a> {
     pub groups: Groups,
     /// The name of the part that is attached to the stream link; without it none is.
     pub part: Option<&'a str>,
+    /// The most issues that the report tells, the last ones: at most 1,000.
+    pub trace: u32,
+}
+
+/// A session of the debugger that the words ask for.
+#[derive(Clone, Copy)]
+pub struct DebugJob<'a> {
+    /// The run that the session goes through. Its cycles are the session's bound, and its trace is 0.
+    pub run: RunJob<'a>,
+    /// The name of the file of commands.
+    pub commands: &'a str,
+}
+
+/// A demo that the words ask for.
+#[derive(Clone, Copy)]
+pub struct DemoJob {
+    /// The number from which its data are generated.
+    pub number: u32,
+    /// Which lanes run together.
+    pub groups: Groups,
 }
 
 /// An image that is to be made.
@@ -56,13 +79,15 @@ pub struct CheckJob<'a> {
 #[derive(Clone, Copy)]
 pub enum Job<'a> {
     Run(RunJob<'a>),
+    Debug(DebugJob<'a>),
+    Demo(DemoJob),
     Image(ImageJob<'a>),
     Check(CheckJob<'a>),
 }
 
-/// The number of cycles: one to ten decimal digits of a value below 2 ^ 32.
-fn read_cycles(word: &str) -> Option<u32>
-    ensures { result ≡ cycles_of word.now }
+/// One to ten decimal digits of a value below 2 ^ 32.
+fn read_u32(word: &str) -> Option<u32>
+    ensures { result ≡ u32_of word.now }
 {
     number(10, u32::MAX, word.as_bytes())
 }
@@ -121,9 +146,19 @@ fn read_part<'a>(parts: &[NamedPart], word: Option<&'a str>) -> Option<Option<&'
     }
 }
 
+/// The number of issues that is asked for: one to four decimal digits of at most 1,000, and 0 where it isn't named.
+fn read_trace(word: Option<&str>) -> Option<u32>
+    ensures { result ≡ trace_or_none (option_map (λ s. s.now) word.entry) }
+{
+    match word {
+        Some(text) => number(4, 1_000, text.as_bytes()),
+        None => Some(0),
+    }
+}
+
 /// The run of these values.
 #[tactic(auto, unfolding(crate::specs::Jobs::run_from))]
-fn run_with<'a>(
+fn run_of<'a>(
     parts: &[NamedPart],
     image: Option<&'a str>,
     cycles: Option<&'a str>,
@@ -132,16 +167,19 @@ fn run_with<'a>(
     script: Option<&'a str>,
     groups: Option<&'a str>,
     part: Option<&'a str>,
+    trace: Option<&'a str>,
 ) -> Option<RunJob<'a>>
     ensures { option_map run_view result ≡ run_from (map (λ p. p.name) parts.now) (option_map (λ s. s.now) image.entry)
         (option_map (λ s. s.now) cycles.entry) (option_map (λ s. s.now) boot.entry) (option_map (λ s. s.now) chip.entry)
-        (option_map (λ s. s.now) script.entry) (option_map (λ s. s.now) groups.entry) (option_map (λ s. s.now) part.entry) }
+        (option_map (λ s. s.now) script.entry) (option_map (λ s. s.now) groups.entry) (option_map (λ s. s.now) part.entry)
+        (option_map (λ s. s.now) trace.entry) }
 {
     let boot = read_boot(boot)?;
     let image = image?;
-    let cycles = read_cycles(cycles?)?;
+    let cycles = read_u32(cycles?)?;
     let groups = read_groups(groups)?;
     let part = read_part(parts, part)?;
+    let trace = read_trace(trace)?;
     Some(RunJob {
         image,
         cycles,
@@ -150,12 +188,17 @@ fn run_with<'a>(
         script,
         groups,
         part,
+        trace,
     })
 }
 
-/// The run of what was found.
-fn run_found<'a>(found: &ArgMatches<'a>, parts: &[NamedPart]) -> Option<RunJob<'a>>
-    ensures { option_map run_view result ≡ run_of (map (λ p. p.name) parts.now) (rows_of (found_of found.now)) }
+/// The run of what was found, with this number of issues.
+fn run_found<'a>(
+    found: &ArgMatches<'a>,
+    parts: &[NamedPart],
+    trace: Option<&'a str>,
+) -> Option<RunJob<'a>>
+    ensures { option_map run_view result ≡ run_with (map (λ p. p.name) parts.now) (option_map (λ s. s.now) trace.entry) (rows_of (found_of found.now)) }
 {
     let image = text_of(found, "IMAGE");
     let cycles = text_of(found, "CYCLES");
@@ -164,7 +207,9 @@ fn run_found<'a>(found: &ArgMatches<'a>, parts: &[NamedPart]) -> Option<RunJob<'
     let script = text_of(found, "script");
     let groups = text_of(found, "groups");
     let part = text_of(found, "part");
-    run_with(parts, image, cycles, boot, chip, script, groups, part)
+    run_of(
+        parts, image, cycles, boot, chip, script, groups, part, trace,
+    )
 }
 
 /// The run of the words of `run`, its name among them.
@@ -179,7 +224,74 @@ fn read_run<'a>(
         return Err(NoMemory);
     };
     match matches_of_words(command, words)? {
-        Some(found) => Ok(run_found(&found, parts)),
+        Some(found) => Ok(run_found(&found, parts, text_of(&found, "trace"))),
+        None => Ok(None),
+    }
+}
+
+/// The debugger's session of this run and this file of commands.
+#[tactic(auto, unfolding(crate::specs::Jobs::debug_from))]
+fn debug_with<'a>(run: Option<RunJob<'a>>, commands: Option<&'a str>) -> Option<DebugJob<'a>>
+    ensures { option_map debug_view result ≡ debug_from (option_map run_view run.entry) (option_map (λ s. s.now) commands.entry) }
+{
+    let run = run?;
+    let commands = commands?;
+    Some(DebugJob { run, commands })
+}
+
+/// The debugger's session of what was found.
+fn debug_found<'a>(found: &ArgMatches<'a>, parts: &[NamedPart]) -> Option<DebugJob<'a>>
+    ensures { option_map debug_view result ≡ debug_of (map (λ p. p.name) parts.now) (rows_of (found_of found.now)) }
+{
+    let run = run_found(found, parts, None);
+    debug_with(run, text_of(found, "COMMANDS"))
+}
+
+/// The debugger's session of the words of `debug`, its name among them.
+fn read_debug<'a>(
+    alloc: Global,
+    words: &'a [String],
+    parts: &[NamedPart],
+) -> Result<Option<DebugJob<'a>>, NoMemory>
+    ensures { IfOk result (λ job. option_map debug_view job ≡ debug_job (map (λ p. p.name) parts.now) (map string_bytes words.entry.now)) }
+{
+    let Ok(command) = debug_command(alloc) else {
+        return Err(NoMemory);
+    };
+    match matches_of_words(command, words)? {
+        Some(found) => Ok(debug_found(&found, parts)),
+        None => Ok(None),
+    }
+}
+
+/// The demo of these values.
+#[tactic(auto, unfolding(crate::specs::Jobs::demo_from))]
+fn demo_with(number: Option<&str>, groups: Option<&str>) -> Option<DemoJob>
+    ensures { option_map demo_view result ≡ demo_from (option_map (λ s. s.now) number.entry) (option_map (λ s. s.now) groups.entry) }
+{
+    let number = read_u32(number?)?;
+    let groups = read_groups(groups)?;
+    Some(DemoJob { number, groups })
+}
+
+/// The demo of what was found.
+fn demo_found(found: &ArgMatches<'_>) -> Option<DemoJob>
+    ensures { option_map demo_view result ≡ demo_of (rows_of (found_of found.now)) }
+{
+    let number = text_of(found, "NUMBER");
+    let groups = text_of(found, "groups");
+    demo_with(number, groups)
+}
+
+/// The demo of the words of `demo`, its name among them.
+fn read_demo(alloc: Global, words: &[String]) -> Result<Option<DemoJob>, NoMemory>
+    ensures { IfOk result (λ job. option_map demo_view job ≡ demo_job (map string_bytes words.entry.now)) }
+{
+    let Ok(command) = demo_command(alloc) else {
+        return Err(NoMemory);
+    };
+    match matches_of_words(command, words)? {
+        Some(found) => Ok(demo_found(&found)),
         None => Ok(None),
     }
 }
@@ -266,21 +378,30 @@ fn read_named<'a>(
         "run" => Ok(read_run(alloc, words, parts)?.map(Job::Run)),
         "image" => Ok(read_image(alloc, words)?.map(Job::Image)),
         "check" => Ok(read_check(alloc, words)?.map(Job::Check)),
+        "debug" => Ok(read_debug(alloc, words, parts)?.map(Job::Debug)),
+        "demo" => match read_demo(alloc, words)? {
+            Some(demo) => Ok(Some(Job::Demo(demo))),
+            None => Ok(None),
+        },
         _ => Ok(None),
     }
 }
 
 /// Reads the words after the program's name, where these parts were handed in. They are
-/// - `run IMAGE CYCLES`, with `--boot BOOT`, `--chip FILE`, `--script FILE`, `--groups GROUPS` and `--part NAME` where they are wanted,
+/// - `run IMAGE CYCLES`, with `--boot BOOT`, `--chip FILE`, `--script FILE`, `--groups GROUPS`, `--part NAME` and `--trace COUNT` where they
+///   are wanted,
+/// - `debug IMAGE CYCLES COMMANDS`, with `--boot BOOT`, `--chip FILE`, `--script FILE`, `--groups GROUPS` and `--part NAME` where they are
+///   wanted,
+/// - `demo NUMBER`, with `--groups GROUPS` where it is wanted,
 /// - `image PAYLOAD OUT`, with `--chip FILE` where it is wanted,
 /// - `check IMAGE`, with `--chip FILE` where it is wanted.
 ///
 /// `clap` judges the words after the first as those of one simple command without help and version flags: an option stands at any
 /// place, at most once, with its value behind `=` or in the next word; after the word `--` each word is a positional.
 ///
-/// CYCLES is one to ten decimal digits of a value of at most 4,294,967,295. GROUPS is what `Groups::read` takes, and `all` where it isn't
+/// CYCLES is one to ten decimal digits of a value of at most 4,294,967,295, and so is NUMBER. GROUPS is what `Groups::read` takes, and `all` where it isn't
 /// named. BOOT is `monitor`, `direct` or `raw`, and `monitor` where it isn't named. NAME is the name of one of the parts, and no part is
-/// asked for where it isn't named.
+/// asked for where it isn't named. COUNT is one to four decimal digits of a value of at most 1,000, and 0 where it isn't named.
 ///
 /// None exactly where the words give no job. An error comes only where an allocation fails.
 #[tactic(auto, unfolding(crate::specs::Jobs::job_of))]

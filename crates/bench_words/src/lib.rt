@@ -4,4 +4,4 @@
 mod command;
 mod job;
 
-pub use job::{CheckJob, ImageJob, Job, RunJob, read_job};
+pub use job::{CheckJob, DebugJob, DemoJob, ImageJob, Job, RunJob, read_job};

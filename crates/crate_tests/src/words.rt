@@ -25,9 +25,10 @@ struct Wanted<'a> {
     script: Option<&'a str>,
     groups: [u8; 8],
     part: Option<&'a str>,
+    trace: u32,
 }
 
-/// All lanes run together, on the standard chip without a script and a part.
+/// All lanes run together, on the standard chip without a script, a part and a trace.
 fn plain<'a>(image: &'a str, cycles: u32) -> Wanted<'a> {
     Wanted {
         image,
@@ -37,6 +38,7 @@ fn plain<'a>(image: &'a str, cycles: u32) -> Wanted<'a> {
         script: None,
         groups: [0; 8],
         part: None,
+        trace: 0,
     }
 }
 
@@ -48,7 +50,8 @@ fn is_wanted(job: &RunJob<'_>, wanted: &Wanted<'_>) -> bool {
     let script = job.script == wanted.script;
     let groups = job.groups.of == wanted.groups;
     let part = job.part == wanted.part;
-    image && cycles && boot && chip && script && groups && part
+    let trace = job.trace == wanted.trace;
+    image && cycles && boot && chip && script && groups && part && trace
 }
 
 /// Whether the words of a line give this run, where these parts were handed in.
@@ -58,6 +61,28 @@ fn gives(alloc: Global, parts: &[NamedPart], line: &str, wanted: &Wanted<'_>) ->
     };
     match read_job(alloc, &words, parts) {
         Ok(Some(Job::Run(job))) => is_wanted(&job, wanted),
+        _ => false,
+    }
+}
+
+/// Whether the words of a line give a session of the debugger through this run, with this file of commands.
+fn debugs(alloc: Global, line: &str, wanted: &Wanted<'_>, commands: &str) -> bool {
+    let Ok(words) = words_of(alloc, line) else {
+        return false;
+    };
+    match read_job(alloc, &words, &[]) {
+        Ok(Some(Job::Debug(job))) => is_wanted(&job.run, wanted) && job.commands == commands,
+        _ => false,
+    }
+}
+
+/// Whether the words of a line give the demo of this number, with these groups.
+fn demos(alloc: Global, line: &str, number: u32, groups: [u8; 8]) -> bool {
+    let Ok(words) = words_of(alloc, line) else {
+        return false;
+    };
+    match read_job(alloc, &words, &[]) {
+        Ok(Some(Job::Demo(job))) => job.number == number && job.groups.of == groups,
         _ => false,
     }
 }
@@ -181,8 +206,60 @@ fn reads_jobs(rt: HostRuntime) {
             script,
             groups,
             part: None,
+            trace: 0,
         };
         assert!(&rt; gives(rt.alloc(), &[], line, &wanted), "{line}");
+    }
+    for (line, trace) in [
+        ("run a.bin 10 --boot raw --trace 2", 2),
+        ("run --trace=0000 a.bin 10 --boot raw", 0),
+        ("run a.bin --trace=0999 10 --boot raw", 999),
+        ("run a.bin 10 --boot raw --trace 1000", 1_000),
+    ] {
+        let wanted = Wanted {
+            trace,
+            ..plain("a.bin", 10)
+        };
+        assert!(&rt; gives(rt.alloc(), &[], line, &wanted), "{line}");
+    }
+}
+
+#[test]
+fn reads_the_jobs_of_the_debugger_and_demos(rt: HostRuntime) {
+    let none: Option<&str> = None;
+    for (line, commands, chip, script) in [
+        ("debug a.bin 10 c.txt --boot raw", "c.txt", none, none),
+        (
+            "debug --chip c.toml --boot=raw a.bin --script=s.txt 10 ",
+            "",
+            Some("c.toml"),
+            Some("s.txt"),
+        ),
+        (
+            "debug --boot raw --groups all -- a.bin 10 --trace",
+            "--trace",
+            none,
+            none,
+        ),
+    ] {
+        let wanted = Wanted {
+            chip,
+            script,
+            ..plain("a.bin", 10)
+        };
+        assert!(&rt; debugs(rt.alloc(), line, &wanted, commands), "{line}");
+    }
+    for (line, number, groups) in [
+        ("demo 1", 1, [0, 0, 0, 0, 0, 0, 0, 0]),
+        ("demo 007", 7, [0, 0, 0, 0, 0, 0, 0, 0]),
+        ("demo --groups each 0", 0, [0, 1, 2, 3, 4, 5, 6, 7]),
+        (
+            "demo 4294967295 --groups=each",
+            4_294_967_295,
+            [0, 1, 2, 3, 4, 5, 6, 7],
+        ),
+    ] {
+        assert!(&rt; demos(rt.alloc(), line, number, groups), "{line}");
     }
 }
 
@@ -235,7 +312,12 @@ fn refuses_other_words(rt: HostRuntime) {
         "run a.bin 10 --boot raw --chip -b",
         "run a.bin 10 --boot raw --fast",
         "run a.bin 10 --boot raw --part lop",
-        "run a.bin 10 --boot raw --trace 1",
+        "run a.bin 10 --boot raw --trace 1001",
+        "run a.bin 10 --boot raw --trace 00001",
+        "run a.bin 10 --boot raw --trace=",
+        "run a.bin 10 --boot raw --trace",
+        "run a.bin 10 --boot raw --trace +1",
+        "run a.bin 10 --boot raw --trace 1 --trace=1",
         "run a.bin 10 --boot raw --help",
         "run a.bin 10 --boot raw -h",
         "run a.bin 10 --boot raw --version",
@@ -263,8 +345,24 @@ fn refuses_other_words(rt: HostRuntime) {
         "check a.bin --script x",
         "check a.bin --help",
         "Check a.bin",
-        "debug a.bin 10 c.txt --boot raw",
-        "demo 1",
+        "check a.bin --trace 1",
+        "debug",
+        "debug a.bin 10 --boot raw",
+        "debug a.bin 10 c.txt d.txt --boot raw",
+        "debug a.bin c.txt 10 --boot raw",
+        "debug a.bin 4294967296 c.txt --boot raw",
+        "debug a.bin 10 c.txt --boot raw --trace 1",
+        "debug a.bin 10 c.txt --boot raw --part loop",
+        "debug a.bin 10 c.txt --boot RAW",
+        "demo",
+        "demo 1 2",
+        "demo 4294967296",
+        "demo 00000000001",
+        "demo -1",
+        "demo ",
+        "demo 1 --boot raw",
+        "demo 1 --trace 1",
+        "demo 1 --groups=",
     ] {
         assert!(&rt; is_line_refused(rt.alloc(), &[], line), "{line}");
     }

@@ -6,9 +6,15 @@ mod attached;
 #[cfg(test)]
 mod boots;
 #[cfg(test)]
+mod debugging;
+#[cfg(test)]
+mod demos;
+#[cfg(test)]
 mod given;
 #[cfg(test)]
 mod images;
+#[cfg(test)]
+mod orders;
 #[cfg(test)]
 mod programs;
 #[cfg(test)]
@@ -16,6 +22,8 @@ mod sessions;
 #[cfg(test)]
 mod tests;
 mod top;
+#[cfg(test)]
+mod traces;
 
 use crate::top::bench;
 use bench_parts::{Counter, Loop, NamedPart, Part, Scramble};

@@ -1,11 +1,11 @@
 //! The top call.
-ghost use Rattle.std.specs.Prelude.{◌≡◌, ◌≢◌, ◌⊎◌, ℕ, IsTrue, List, None, map, string_bytes};
+ghost use Rattle.std.specs.Prelude.{◌≡◌, ◌≢◌, ◌⊎◌, ℕ, IsTrue, List, None, Some, map, string_bytes};
 ghost use Rattle.bench_job.specs.Plans.{plan_of, usage_refusal};
-ghost use Rattle.bench_job.specs.Statuses.{IsOut, IsRefusedImage, IsStatus};
+ghost use Rattle.bench_job.specs.Statuses.{IsOut, IsRefusedCommands, IsRefusedImage, IsStatus};
 ghost use Rattle.bench_plan.specs.Answers.{refused};
 ghost use Rattle.bench_plan.specs.Calls.{Tells, call_of};
 ghost use Rattle.bench_plan.specs.Keeps.{IsTold, Keeps};
-ghost use Rattle.bench_words.specs.Jobs.{job_of};
+ghost use Rattle.bench_words.specs.Jobs.{Demo, demos, job_of};
 ghost use Rattle.chip_base.specs.Settings.{values_of};
 ghost use Rattle.chip_base.specs.declared.boot.Boot.TheVariants.{Monitor};
 ghost use Rattle.chip_base.specs.declared.script.Script.{Script};
@@ -27,7 +27,13 @@ use std::thread::Threads;
 ///   must be, and `monitor`, the mode without `--boot`, begins the boot monitor; the file is then what the script's `image` step sends.
 ///   With `--chip FILE` the chip has the settings of that file, else the standard ones; with `--script FILE` that script gives what
 ///   comes from outside, else nothing comes. `--groups GROUPS` says which lanes may run together, and changes no report. No thread is
-///   started. `--part NAME` attaches the first of the parts that has this name to the stream link; without it the link has none.
+///   started. `--part NAME` attaches the first of the parts that has this name to the stream link; without it the link has none. With
+///   `--trace COUNT` (at most 1,000) the report tells the last COUNT issues of the harts, or all where there are fewer.
+/// - The words `debug IMAGE CYCLES COMMANDS`, with the same options but `--trace`, do what the lines of the file COMMANDS say on the same
+///   chip, which then runs for at most CYCLES cycles, and write the session's lines to the sink in place of a report. The lines of COMMANDS
+///   are those that `read_commands` of bench_debug takes.
+/// - The words `demo NUMBER` upload an image that is made from NUMBER (0 to 4,294,967,295) through the boot monitor, run it, and write
+///   what came of it. `--groups GROUPS` is as above. No file is read, and the status is 0, 7 or 9.
 /// - The words `image PAYLOAD OUT` make the image of the bytes of the file PAYLOAD, with zero bytes up to a multiple of four, in the
 ///   file OUT, and write the line `image LENGTH CHECKSUM`: the length of the payload with those zero bytes, in decimal digits, and the
 ///   checksum word, in eight hexadecimal digits.
@@ -37,11 +43,12 @@ use std::thread::Threads;
 /// dropped before the run.
 ///
 /// A payload has room where it is at most as long as the IMEM that `--chip FILE` gives, or 1,048,576 bytes without it. The chip file is
-/// read and judged first, then the image or the payload, then the script; the first refusal ends the call. The status is
+/// read and judged first, then the image or the payload, then the script, then the file of commands; the first refusal ends the call.
+/// The status is
 /// - 0 where the whole text was written,
 /// - 2 where the words give no job, after the line `error usage`,
 /// - 3 where a file isn't there or reading it failed, after `error read NAME`, or where it is longer than its limit (the chip file
-///   65,536 bytes, the image or the payload 2,097,152, the script 1,048,576), after `error long NAME`,
+///   and the file of commands 65,536 bytes, the image or the payload 2,097,152, the script 1,048,576), after `error long NAME`,
 /// - 4 where the image is refused, after `error image` and what is wrong: `size N` of a file of N bytes under `--boot raw`, more than
 ///   IMEM has, and of a payload of N bytes, zero or more than there is room for; of an image, under `--boot direct` and in `check`,
 ///   `short N` where there are only N bytes, `signature W` with the first word, `size N` with the length that it tells, `checksum W`
@@ -50,7 +57,8 @@ use std::thread::Threads;
 ///   what is wrong in it: `word`, `number`, `order`, `hex`, `pin` or `text`,
 /// - 6 where the chip file is faulty, after `error chip toml`, `error chip key` or `error chip range KEY`,
 /// - 7 where the sink failed in the text, or OUT couldn't be written,
-/// - 9 where memory was wanted.
+/// - 9 where memory was wanted,
+/// - 10 where a line of the file of commands is faulty, after `error debug line N` with the first such line, counted from 1.
 pub fn bench<R: Threads + Sync, S: Shelf, O: Sink>(
     rt: &R,
     alloc: Global,
@@ -72,6 +80,10 @@ pub fn bench<R: Threads + Sync, S: Shelf, O: Sink>(
         × Tells (refused usage_refusal) (call_of S.held O.written O.faults shelf.old shelf.new out.old out.new result) }
     ensures refused_image { let job = job_of (map (λ p. p.name) parts.items) (map string_bytes words.now.items) in
         result ≡ 4 → IsRefusedImage job (call_of S.held O.written O.faults shelf.old shelf.new out.old out.new result) }
+    ensures refused_commands { let job = job_of (map (λ p. p.name) parts.items) (map string_bytes words.now.items) in
+        result ≡ 10 → IsRefusedCommands job (call_of S.held O.written O.faults shelf.old shelf.new out.old out.new result) }
+    ensures demo { (demo : Demo) → job_of (map (λ p. p.name) parts.items) (map string_bytes words.now.items) ≡ Some (demos demo)
+        → ((S.held shelf.new).read_faults ≡ (S.held shelf.old).read_faults) × ((result ≡ 0) ⊎ ((result ≡ 7) ⊎ (result ≡ 9))) }
 
     // 7 comes only where the sink failed or the image's file couldn't be written, and where nothing failed the whole answer is told, or
     // want of memory

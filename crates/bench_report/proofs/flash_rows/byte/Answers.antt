@@ -3,7 +3,7 @@ use Rattle.std.proofs.lemmas.Bool.Decides.{nat_tests}
 use Rattle.spi_flash.specs.Flash.{FlashState, byte_of, flash_at}
 use Rattle.bench_report.proofs.flash_rows.byte.Goals as goal
 
--- a fitted flash has a byte at each address below its size
+-- a fitted flash has a byte at each of its addresses
 byte_there : (f : FlashState) (at : ℕ) → f.fitted ≡ true → at < 2 ^ 23 → flash_at f at ≡ Some (byte_of f.cells at)
 byte_there f at e below = grind (arith, nat_tests)
 

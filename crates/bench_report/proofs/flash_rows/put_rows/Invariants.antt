@@ -8,6 +8,5 @@ use Rattle.bench_report.proofs.flash_rows.put_rows.Given as goal
 
 abbrev pub invariant-loop-number : goal.invariant-loop-number
 invariant-loop-number g l =
-    ForEach (ghosts (g.dyn-1.0, g.dyn-1.1, g.dyn-1.2)).stands l.chip (λ _ s. s.units.spi.unit.flash.fitted ≡ true
-    → Appending (g.O.Sink.written l.initial.out) (g.O.Sink.written l.out) (g.O.Sink.faults l.initial.out) (g.O.Sink.faults l.out)
-    (joined_below (flash_row_in s.units.spi.unit.flash.cells) l.number) (Ok (tt {0})))
+    ForEach (ghosts (g.dyn-1.0, g.dyn-1.1, g.dyn-1.2)).stands l.chip (λ _ s. s.units.spi.unit.flash.fitted ≡ true → Appending (g.O.Sink.written l.initial.out) (g.O.Sink.written l.out) (g.O.Sink.faults l.initial.out)
+    (g.O.Sink.faults l.out) (joined_below (flash_row_in s.units.spi.unit.flash.cells) l.number) (Ok (tt {0})))

@@ -41,5 +41,5 @@ returns-clause-writes g c board s h =
 pub returns-clause-state : goal.returns-clause-state
 returns-clause-state g c =
     let sum : 4096 * c.loop.counter + c.args.cycles % 4096 ≡ c.args.cycles = omega (arith, c.loop-test.false, c.loop.auto.counter-end) in
-    stands_on (ghosts (g.dyn-1.0, g.dyn-1.1, g.dyn-1.2)).stands c.args.chip.now c.loop.chip c.put_stretch-2.new.chip
-    (4096 * c.loop.counter) (c.args.cycles % 4096) c.args.cycles c.put_stretch-2.result c.loop.invariant.state c.put_stretch-2.ensures.state sum
+    stands_on (ghosts (g.dyn-1.0, g.dyn-1.1, g.dyn-1.2)).stands c.args.chip.now c.loop.chip c.put_stretch-2.new.chip (4096 * c.loop.counter) (c.args.cycles % 4096) c.args.cycles c.put_stretch-2.result
+    c.loop.invariant.state c.put_stretch-2.ensures.state sum

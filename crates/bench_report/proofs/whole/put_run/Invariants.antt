@@ -8,10 +8,8 @@ use Rattle.bench_report.proofs.whole.put_run.Given as goal
 
 abbrev pub invariant-loop : goal.invariant-loop
 invariant-loop g l = record {
-  state : (board : Board) (s : ChipState) → (ghosts (g.dyn-1.0, g.dyn-1.1, g.dyn-1.2)).stands board l.fn.chip s
-      → (ghosts (g.dyn-1.0, g.dyn-1.1, g.dyn-1.2)).stands board l.chip (after board s (4096 * l.counter));
+  state : (board : Board) (s : ChipState) → (ghosts (g.dyn-1.0, g.dyn-1.1, g.dyn-1.2)).stands board l.fn.chip s → (ghosts (g.dyn-1.0, g.dyn-1.1, g.dyn-1.2)).stands board l.chip (after board s (4096 * l.counter));
   now : (ghosts (g.dyn-1.0, g.dyn-1.1, g.dyn-1.2)).now l.chip ≡ 4096 * l.counter;
   writes : (board : Board) (s : ChipState) → (ghosts (g.dyn-1.0, g.dyn-1.1, g.dyn-1.2)).stands board l.fn.chip s
-      → Appending (g.O.Sink.written l.fn.out) (g.O.Sink.written l.out) (g.O.Sink.faults l.fn.out) (g.O.Sink.faults l.out)
-      (events_text (next_events board s (4096 * l.counter))) (Ok (tt {0}));
+      → Appending (g.O.Sink.written l.fn.out) (g.O.Sink.written l.out) (g.O.Sink.faults l.fn.out) (g.O.Sink.faults l.out) (events_text (next_events board s (4096 * l.counter))) (Ok (tt {0}));
 }

@@ -1,4 +1,4 @@
-use Rattle.bench_job.proofs.Ends.{failed, no_job, quiet, refused_image, statuses, still, told_whole, usage_only}
+use Rattle.bench_job.proofs.Ends.{demo_only, failed, no_job, quiet, refused_commands, refused_image, statuses, still, told_whole, usage_only}
 use Rattle.chip_gate.proofs.Gates.{gated_after}
 use Rattle.neo_cli.proofs.top.bench.Goals as goal
 
@@ -16,6 +16,12 @@ returns-clause-no_job g c = no_job _ _ _ (rw c.deref.ensures.value at c.perform.
 
 pub returns-clause-refused_image : goal.returns-clause-refused_image
 returns-clause-refused_image g c = refused_image _ _ _ (rw c.deref.ensures.value at c.perform.ensures)
+
+pub returns-clause-refused_commands : goal.returns-clause-refused_commands
+returns-clause-refused_commands g c = refused_commands _ _ _ (rw c.deref.ensures.value at c.perform.ensures)
+
+pub returns-clause-demo : goal.returns-clause-demo
+returns-clause-demo g c = demo_only _ _ _ (rw c.deref.ensures.value at c.perform.ensures)
 
 pub returns-clause-write : goal.returns-clause-write
 returns-clause-write g c = failed _ _ _ (rw c.deref.ensures.value at c.perform.ensures)

@@ -14,7 +14,7 @@ bytes_there : (hub : HubState) (bank : Bank) (base at : ℕ) (bytes : List ℕ) 
 bytes_there hub Imem base at bytes e below room h = search rules
 bytes_there hub Dmem base at bytes e below room h = search rules
 
--- the word is there
+-- there is a word
 word_there : (hub : HubState) (bank : Bank) (base at : ℕ) → base ≡ base_of bank → at % 4 ≡ 0 → at < 1048576 → at + 4 ≤ length (bytes_of hub bank)
     → None ≡ word_view hub (base + at) → ⊥
 word_there hub Imem base at e place below room h = search rules

@@ -1,0 +1,3 @@
+mod Payload
+mod Serial
+mod Shown
