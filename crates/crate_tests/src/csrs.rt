@@ -3,7 +3,7 @@
 use csr_file::Csrs;
 
 /// Each CSR of hart 1: its number, its value at reset, whether a write is done, and its value after a write of ones.
-const TABLE: [(u16, u32, bool, u32); 19] = [
+const TABLE: &[(u16, u32, bool, u32)] = &[
     (0x300, 0x0000_1800, true, 0x0000_1888),
     (0x301, 0x4000_1104, true, 0x4000_1104),
     (0x304, 0, true, 0xffff_0888),
@@ -27,7 +27,7 @@ const TABLE: [(u16, u32, bool, u32); 19] = [
 
 #[test]
 fn reset_values_and_masks(rt: HostRuntime) {
-    for (number, reset, done, after) in TABLE {
+    for &(number, reset, done, after) in TABLE {
         let mut csrs = Csrs::new(1);
         let starts = csrs.read(number, 0x0001_0000) == Some(reset);
         let ends = csrs.write(number, 0xffff_ffff) == done;
@@ -42,15 +42,14 @@ fn interrupts_and_traps(rt: HostRuntime) {
     csrs.write(0x304, 0xffff_ffff);
     csrs.write(0x305, 0x0000_0011);
     csrs.write(0x300, 0x0000_0008);
-    let cases = [
+    for &(mip, cause) in &[
         (0xffff_ffff, Some(0x8000_000b)),
         (0xffff_f7ff, Some(0x8000_0003)),
         (0xffff_f7f7, Some(0x8000_0007)),
         (0xffff_0000, Some(0x8000_0010)),
         (0x8000_0000, Some(0x8000_001f)),
         (0x0000_f777, None),
-    ];
-    for (mip, cause) in cases {
+    ] {
         assert!(rt; csrs.pending(mip) == cause, "at {mip}");
     }
     let exception = csrs.trap(4, 2, 0x0000_abcd) == 0x10;

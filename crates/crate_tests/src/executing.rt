@@ -5,7 +5,7 @@ use rv_exec::{alu, branch, cost};
 
 #[test]
 fn computes_results(rt: HostRuntime) {
-    let results = [
+    for &(op, a, b, result) in &[
         (Op::Div, 0x8000_0000, 0xffff_ffff, 0x8000_0000),
         (Op::Rem, 0x8000_0000, 0xffff_ffff, 0),
         (Op::Div, 0x8000_0000, 0, 0xffff_ffff),
@@ -21,25 +21,23 @@ fn computes_results(rt: HostRuntime) {
         (Op::Slti, 0xffff_ffff, 0, 1),
         (Op::Sltiu, 0xffff_ffff, 0, 0),
         (Op::Sub, 0, 1, 0xffff_ffff),
-    ];
-    for (op, a, b, result) in results {
-        assert_eq!(rt; alu(op, a, b), result, "{op:?} of {a:08x} and {b:08x}");
+    ] {
+        assert!(&rt; alu(op, a, b) == result, "{op:?} of {a:08x} and {b:08x}");
     }
 }
 
 #[test]
 fn takes_branches_and_counts_cycles(rt: HostRuntime) {
-    let branches = [
+    for &(op, a, b, taken) in &[
         (Op::Blt, 0xffff_ffff, 0, true),
         (Op::Bltu, 0xffff_ffff, 0, false),
         (Op::Bge, 5, 5, true),
         (Op::Bne, 5, 5, false),
-    ];
-    for (op, a, b, taken) in branches {
-        assert_eq!(rt; branch(op, a, b), taken, "{op:?} of {a:08x} and {b:08x}");
-        assert_eq!(rt; cost(op, 0, taken), if taken { 6 } else { 3 }, "{op:?}");
+    ] {
+        assert!(&rt; branch(op, a, b) == taken, "{op:?} of {a:08x} and {b:08x}");
+        assert!(&rt; cost(op, 0, taken) == if taken { 6 } else { 3 }, "{op:?}");
     }
-    let costs = [
+    for &(op, amount, cycles) in &[
         (Op::Auipc, 0, 2),
         (Op::Srai, 31, 34),
         (Op::Remu, 0, 36),
@@ -48,8 +46,7 @@ fn takes_branches_and_counts_cycles(rt: HostRuntime) {
         (Op::Lbu, 0, 5),
         (Op::Csrrci, 0, 3),
         (Op::Wfi, 0, 3),
-    ];
-    for (op, amount, cycles) in costs {
-        assert_eq!(rt; cost(op, amount, false), cycles, "{op:?}");
+    ] {
+        assert!(&rt; cost(op, amount, false) == cycles, "{op:?}");
     }
 }

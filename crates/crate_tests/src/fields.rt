@@ -35,27 +35,30 @@ fn cuts_lines_and_fields() -> bool {
 }
 
 #[test]
-fn reads_quoted_texts_lines_and_numbers(rt: HostRuntime) {
-    for (text, bytes, rest) in [
-        (b"\"".as_slice(), b"".as_slice(), b"".as_slice()),
+fn reads_quoted_texts(rt: HostRuntime) {
+    let quoted: &[(&[u8], &[u8], &[u8])] = &[
+        (b"\"", b"", b""),
         (b"A\\r\\n\\t\" x", b"A\r\n\t", b" x"),
         (b"\\\\\\\"~\"", b"\\\"~", b""),
         (b"\\x00\\xfF\"b", &[0, 255], b"b"),
-    ] {
+    ];
+    for &(text, bytes, rest) in quoted {
         assert!(&rt; stands_for(rt.alloc(), text, bytes, rest));
     }
-    for text in [
-        b"ab".as_slice(),
-        b"\t\"",
-        b"\\q\"",
-        b"\\x4\"",
-        b"\x7f\"",
-        b"\\",
-    ] {
+}
+
+#[test]
+fn refuses_other_texts(rt: HostRuntime) {
+    let refused: &[&[u8]] = &[b"ab", b"\t\"", b"\\q\"", b"\\x4\"", b"\x7f\"", b"\\"];
+    for &text in refused {
         assert!(&rt; is_refused(rt.alloc(), text));
     }
-    for (text, value) in [
-        (b"0".as_slice(), Some(0)),
+}
+
+#[test]
+fn reads_numbers(rt: HostRuntime) {
+    let numbers: &[(&[u8], Option<u32>)] = &[
+        (b"0", Some(0)),
         (b"0000000012", Some(12)),
         (b"4294967295", Some(4_294_967_295)),
         (b"4294967296", None),
@@ -63,8 +66,13 @@ fn reads_quoted_texts_lines_and_numbers(rt: HostRuntime) {
         (b"", None),
         (b"1x", None),
         (b"-1", None),
-    ] {
+    ];
+    for &(text, value) in numbers {
         assert!(&rt; number(10, u32::MAX, text) == value);
     }
+}
+
+#[test]
+fn reads_lines_and_fields(rt: HostRuntime) {
     assert!(&rt; cuts_lines_and_fields());
 }

@@ -17,9 +17,11 @@ enum Act {
     Wait(u32),
     /// What stands at an address.
     Holds(u32, u8),
+    /// Write enable is set, and then a command sent with an address.
+    Command(u8, [u8; 3]),
 }
 
-use Act::{Byte, Control, Holds, Reset, Same, Select, Wait};
+use Act::{Byte, Command, Control, Holds, Reset, Same, Select, Wait};
 
 const fn set(reg: u8, word: u32) -> Option<Down> {
     Some(Down::Set { reg, word })
@@ -35,55 +37,159 @@ fn answer_up(answer: u8) -> Option<Up> {
     })
 }
 
+/// The flash is selected or deselected.
+fn select(rt: &impl Abort, spi: &mut Spi, on: bool) {
+    let up = spi.cycle(0, set(8, u32::from(on))).up;
+    assert!(rt; up == Some(Up::CREDIT));
+}
+
+/// So many cycles, in which nothing goes up.
+fn wait(rt: &impl Abort, spi: &mut Spi, cycles: u32) {
+    for _ in 0..cycles {
+        let up = spi.cycle(0, None).up;
+        assert!(rt; up == None);
+    }
+}
+
 /// A byte is exchanged in the sixteenth of its cycles, and nothing goes up before.
 fn exchange(rt: &impl Abort, spi: &mut Spi, byte: u8, answer: u8) {
-    let mut down = set(4, u32::from(byte));
-    for _ in 0..15 {
-        assert_eq!(rt; spi.cycle(0, down).up, None, "before the answer to {byte}");
-        down = None;
-    }
-    assert_eq!(rt; spi.cycle(0, down).up, answer_up(answer), "to {byte}");
+    let up = spi.cycle(0, set(4, u32::from(byte))).up;
+    assert!(rt; up == None, "before the answer to {byte}");
+    wait(rt, spi, 14);
+    let up = spi.cycle(0, None).up;
+    assert!(rt; up == answer_up(answer), "to {byte}");
 }
 
-fn carry_out(rt: &impl Abort, spi: &mut Spi, act: Act) {
-    match act {
-        Control(word) => assert_eq!(rt; spi.cycle(0, set(0, word)).up, None),
-        Reset => assert_eq!(rt; spi.cycle(0, Some(Down::Reset)).up, Some(Up::DONE)),
-        Select(on) => {
-            assert_eq!(rt; spi.cycle(0, set(8, u32::from(on))).up, Some(Up::CREDIT));
-        }
-        Byte(byte, answer) => exchange(rt, spi, byte, answer),
-        Same(times, byte) => {
-            for _ in 0..times {
-                exchange(rt, spi, byte, 0xff);
-            }
-        }
-        Wait(cycles) => {
-            for _ in 0..cycles {
-                assert_eq!(rt; spi.cycle(0, None).up, None);
-            }
-        }
-        Holds(at, byte) => assert_eq!(rt; spi.flash(at % 0x80_0000), byte, "at {at}"),
+fn exchange_same(rt: &impl Abort, spi: &mut Spi, times: u32, byte: u8) {
+    for _ in 0..times {
+        exchange(rt, spi, byte, 0xff);
     }
 }
 
-fn perform(rt: &impl Abort, spi: &mut Spi, acts: &[Act]) {
-    for one in acts {
-        carry_out(rt, spi, *one);
-    }
-}
-
-/// The command to set write enable.
-const ENABLE: [Act; 3] = [Select(true), Byte(0x06, 0xff), Select(false)];
-
-/// Sends a command with an address, after write enable was set.
 fn command(rt: &impl Abort, spi: &mut Spi, code: u8, address: [u8; 3]) {
-    perform(rt, spi, &ENABLE);
-    perform(rt, spi, &[Select(true), Byte(code, 0xff)]);
+    select(rt, spi, true);
+    exchange(rt, spi, 0x06, 0xff);
+    select(rt, spi, false);
+    select(rt, spi, true);
+    exchange(rt, spi, code, 0xff);
     for byte in address {
         exchange(rt, spi, byte, 0xff);
     }
 }
+
+fn carry_out(rt: &impl Abort, spi: &mut Spi, act: Act) {
+    match act {
+        Control(word) => {
+            let up = spi.cycle(0, set(0, word)).up;
+            assert!(rt; up == None);
+        }
+        Reset => {
+            let up = spi.cycle(0, Some(Down::Reset)).up;
+            assert!(rt; up == Some(Up::DONE));
+        }
+        Select(on) => select(rt, spi, on),
+        Byte(byte, answer) => exchange(rt, spi, byte, answer),
+        Same(times, byte) => exchange_same(rt, spi, times, byte),
+        Wait(cycles) => wait(rt, spi, cycles),
+        Holds(at, byte) => assert!(rt; spi.flash(at % 0x80_0000) == byte, "at {at}"),
+        Command(code, address) => command(rt, spi, code, address),
+    }
+}
+
+fn perform(rt: &impl Abort, spi: &mut Spi, acts: &[Act]) {
+    for act in acts {
+        carry_out(rt, spi, *act);
+    }
+}
+
+/// The bytes 0f and f3 are programmed at 400000, one after the other, and then one without write enable.
+const PROGRAM: &[Act] = &[
+    Control(1),
+    Command(0x02, [0x40, 0, 0]),
+    Byte(0x0f, 0xff),
+    Select(false),
+    Wait(6_399),
+    Holds(0x40_0000, 0xff),
+    Wait(1),
+    Holds(0x40_0000, 0x0f),
+    Command(0x02, [0x40, 0, 0]),
+    Byte(0xf3, 0xff),
+    Select(false),
+    Wait(6_399),
+    Holds(0x40_0000, 0x0f),
+    Wait(1),
+    Holds(0x40_0000, 0x03),
+    Holds(0x40_0001, 0xff),
+    Select(true),
+    Byte(0x02, 0xff),
+    Byte(0x40, 0xff),
+    Byte(0, 0xff),
+    Byte(0, 0xff),
+    Byte(0, 0xff),
+    Select(false),
+    Wait(6_400),
+    Holds(0x40_0000, 0x03),
+];
+
+/// Bytes go on at the beginning of the page, and a later one for a place replaces the earlier one.
+const PAGES: &[Act] = &[
+    Command(0x02, [0, 0x01, 0xfe]),
+    Byte(0xa1, 0xff),
+    Byte(0xa2, 0xff),
+    Byte(0xa3, 0xff),
+    Select(false),
+    Wait(6_400),
+    Holds(0xff, 0xff),
+    Holds(0x100, 0xa3),
+    Holds(0x101, 0xff),
+    Holds(0x1fe, 0xa1),
+    Holds(0x1ff, 0xa2),
+    Holds(0x200, 0xff),
+    Command(0x02, [0, 0x03, 0x80]),
+    Byte(0, 0xff),
+    Same(255, 0xfe),
+    Byte(0x5a, 0xff),
+    Select(false),
+    Wait(6_400),
+    Holds(0x380, 0x5a),
+    Holds(0x381, 0xfe),
+    Holds(0x37f, 0xfe),
+];
+
+/// The last and the first byte of the flash are programmed and read, and then the name and the status.
+const READ: &[Act] = &[
+    Command(0x02, [0x7f, 0xff, 0xff]),
+    Byte(0x11, 0xff),
+    Select(false),
+    Wait(6_400),
+    Command(0x02, [0, 0, 0]),
+    Byte(0x22, 0xff),
+    Select(false),
+    Wait(6_400),
+    Byte(0x9f, 0xff),
+    Select(false),
+    Select(true),
+    Byte(0x03, 0xff),
+    Byte(0xff, 0xff),
+    Byte(0xff, 0xff),
+    Byte(0xff, 0xff),
+    Byte(0x06, 0x11),
+    Byte(0, 0x22),
+    Byte(0, 0xff),
+    Select(false),
+    Select(true),
+    Byte(0x9f, 0xff),
+    Select(true),
+    Byte(0, 0xef),
+    Byte(0, 0x40),
+    Byte(0, 0x17),
+    Byte(0, 0),
+    Byte(0, 0),
+    Select(false),
+    Select(true),
+    Byte(0x05, 0xff),
+    Byte(0, 0),
+];
 
 /// A program of the byte 0f and then of f3 leaves 03, each after 6,400 cycles, and one without write enable leaves it so. Bytes go on
 /// at the beginning of the page, and a later byte for a place replaces the earlier one. A read goes on at the beginning of the flash.
@@ -92,97 +198,101 @@ fn command(rt: &impl Abort, spi: &mut Spi, code: u8, address: [u8; 3]) {
 #[test]
 fn programs_and_reads(rt: HostRuntime) {
     let mut spi = Spi::new(rt.alloc(), true).expect(&rt, "memory for the flash");
-    carry_out(&rt, &mut spi, Control(1));
-    for (byte, before, after) in [(0x0f, 0xff, 0x0f), (0xf3, 0x0f, 0x03)] {
-        command(&rt, &mut spi, 0x02, [0x40, 0, 0]);
-        perform(
-            &rt,
-            &mut spi,
-            &[
-                Byte(byte, 0xff),
-                Select(false),
-                Wait(6_399),
-                Holds(0x40_0000, before),
-                Wait(1),
-                Holds(0x40_0000, after),
-            ],
-        );
-    }
-    let disabled = [
-        Holds(0x40_0001, 0xff),
-        Select(true),
-        Byte(0x02, 0xff),
-        Byte(0x40, 0xff),
-        Byte(0, 0xff),
-        Byte(0, 0xff),
-        Byte(0, 0xff),
-        Select(false),
-        Wait(6_400),
-        Holds(0x40_0000, 0x03),
-    ];
-    perform(&rt, &mut spi, &disabled);
-    command(&rt, &mut spi, 0x02, [0, 0x01, 0xfe]);
-    let around = [
-        Byte(0xa1, 0xff),
-        Byte(0xa2, 0xff),
-        Byte(0xa3, 0xff),
-        Select(false),
-        Wait(6_400),
-        Holds(0xff, 0xff),
-        Holds(0x100, 0xa3),
-        Holds(0x101, 0xff),
-        Holds(0x1fe, 0xa1),
-        Holds(0x1ff, 0xa2),
-        Holds(0x200, 0xff),
-    ];
-    perform(&rt, &mut spi, &around);
-    command(&rt, &mut spi, 0x02, [0, 0x03, 0x80]);
-    let replaced = [
-        Byte(0, 0xff),
-        Same(255, 0xfe),
-        Byte(0x5a, 0xff),
-        Select(false),
-        Wait(6_400),
-        Holds(0x380, 0x5a),
-        Holds(0x381, 0xfe),
-        Holds(0x37f, 0xfe),
-    ];
-    perform(&rt, &mut spi, &replaced);
-    for (address, byte) in [([0x7f, 0xff, 0xff], 0x11), ([0, 0, 0], 0x22)] {
-        command(&rt, &mut spi, 0x02, address);
-        perform(
-            &rt,
-            &mut spi,
-            &[Byte(byte, 0xff), Select(false), Wait(6_400)],
-        );
-    }
-    let read = [
-        Byte(0x9f, 0xff),
-        Select(false),
-        Select(true),
-        Byte(0x03, 0xff),
-        Byte(0xff, 0xff),
-        Byte(0xff, 0xff),
-        Byte(0xff, 0xff),
-        Byte(0x06, 0x11),
-        Byte(0, 0x22),
-        Byte(0, 0xff),
-        Select(false),
-        Select(true),
-        Byte(0x9f, 0xff),
-        Select(true),
-        Byte(0, 0xef),
-        Byte(0, 0x40),
-        Byte(0, 0x17),
-        Byte(0, 0),
-        Byte(0, 0),
-        Select(false),
-        Select(true),
-        Byte(0x05, 0xff),
-        Byte(0, 0),
-    ];
-    perform(&rt, &mut spi, &read);
+    perform(&rt, &mut spi, PROGRAM);
+    perform(&rt, &mut spi, PAGES);
+    perform(&rt, &mut spi, READ);
 }
+
+/// 000fff, 001000 and 010000 are programmed to 00, and then the block of 4,096 bytes at 001000 is erased.
+const SMALL: &[Act] = &[
+    Control(1),
+    Command(0x02, [0, 0x0f, 0xff]),
+    Byte(0, 0xff),
+    Select(false),
+    Wait(6_400),
+    Command(0x02, [0, 0x10, 0]),
+    Byte(0, 0xff),
+    Select(false),
+    Wait(6_400),
+    Command(0x02, [1, 0, 0]),
+    Byte(0, 0xff),
+    Select(false),
+    Wait(6_400),
+    Command(0x20, [0, 0x1a, 0xbc]),
+    // ten bytes and seven selections come before the wait
+    Select(false),
+    Select(true),
+    Byte(0x03, 0xff),
+    Byte(0, 0xff),
+    Byte(0x10, 0xff),
+    Byte(0, 0xff),
+    Byte(0, 0xff),
+    Select(false),
+    Select(true),
+    Byte(0x04, 0xff),
+    Select(false),
+    Select(true),
+    Byte(0x05, 0xff),
+    Byte(0, 0x03),
+    Select(false),
+    Select(true),
+    Byte(0x9f, 0xff),
+    Byte(0, 0xff),
+    Wait(63_999 - 10 * 16 - 7),
+    Holds(0x1000, 0),
+    Wait(1),
+    Holds(0x1000, 0xff),
+    Holds(0x0fff, 0),
+    Byte(0, 0xff),
+    Select(false),
+    Select(true),
+    Byte(0x05, 0xff),
+    Byte(0, 0),
+    Select(false),
+];
+
+const LARGE: &[Act] = &[
+    Command(0xd8, [0, 0xab, 0xcd]),
+    Select(false),
+    Wait(319_999),
+    Holds(0x0fff, 0),
+    Wait(1),
+    Holds(0x0fff, 0xff),
+    Holds(0x1_0000, 0),
+];
+
+const UNFINISHED: &[Act] = &[
+    Select(true),
+    Byte(0x06, 0xff),
+    Select(false),
+    Select(true),
+    Byte(0xd8, 0xff),
+    Byte(1, 0xff),
+    Byte(0, 0xff),
+    Select(false),
+    Select(true),
+    Byte(0x05, 0xff),
+    Byte(0, 0x02),
+    Select(false),
+];
+
+const RESETS: &[Act] = &[
+    Command(0xd8, [1, 0, 0]),
+    Reset,
+    Control(1),
+    Select(true),
+    Byte(0x05, 0xff),
+    Byte(0, 0x02),
+    Select(false),
+    Command(0x20, [1, 0, 0]),
+    Select(false),
+    Reset,
+    Control(1),
+    Wait(63_997),
+    Holds(0x1_0000, 0),
+    Wait(1),
+    Holds(0x1_0000, 0xff),
+];
 
 /// Erases make their block ff after 64,000 and 320,000 cycles. While one is under way only the status answers, and commands that come
 /// then do nothing. A command without its whole address starts nothing, nor does a Reset, and an operation under way goes on
@@ -190,89 +300,10 @@ fn programs_and_reads(rt: HostRuntime) {
 #[test]
 fn erases(rt: HostRuntime) {
     let mut spi = Spi::new(rt.alloc(), true).expect(&rt, "memory for the flash");
-    carry_out(&rt, &mut spi, Control(1));
-    for address in [[0, 0x0f, 0xff], [0, 0x10, 0], [1, 0, 0]] {
-        command(&rt, &mut spi, 0x02, address);
-        perform(&rt, &mut spi, &[Byte(0, 0xff), Select(false), Wait(6_400)]);
-    }
-    command(&rt, &mut spi, 0x20, [0, 0x1a, 0xbc]);
-    // ten bytes and seven selections come before the wait
-    let busy = [
-        Select(false),
-        Select(true),
-        Byte(0x03, 0xff),
-        Byte(0, 0xff),
-        Byte(0x10, 0xff),
-        Byte(0, 0xff),
-        Byte(0, 0xff),
-        Select(false),
-        Select(true),
-        Byte(0x04, 0xff),
-        Select(false),
-        Select(true),
-        Byte(0x05, 0xff),
-        Byte(0, 0x03),
-        Select(false),
-        Select(true),
-        Byte(0x9f, 0xff),
-        Byte(0, 0xff),
-        Wait(63_999 - 10 * 16 - 7),
-        Holds(0x1000, 0),
-        Wait(1),
-        Holds(0x1000, 0xff),
-        Holds(0x0fff, 0),
-        Byte(0, 0xff),
-        Select(false),
-        Select(true),
-        Byte(0x05, 0xff),
-        Byte(0, 0),
-        Select(false),
-    ];
-    perform(&rt, &mut spi, &busy);
-    command(&rt, &mut spi, 0xd8, [0, 0xab, 0xcd]);
-    let large = [
-        Select(false),
-        Wait(319_999),
-        Holds(0x0fff, 0),
-        Wait(1),
-        Holds(0x0fff, 0xff),
-        Holds(0x1_0000, 0),
-    ];
-    perform(&rt, &mut spi, &large);
-    perform(&rt, &mut spi, &ENABLE);
-    let unfinished = [
-        Select(true),
-        Byte(0xd8, 0xff),
-        Byte(1, 0xff),
-        Byte(0, 0xff),
-        Select(false),
-        Select(true),
-        Byte(0x05, 0xff),
-        Byte(0, 0x02),
-        Select(false),
-    ];
-    perform(&rt, &mut spi, &unfinished);
-    command(&rt, &mut spi, 0xd8, [1, 0, 0]);
-    let reset = [
-        Reset,
-        Control(1),
-        Select(true),
-        Byte(0x05, 0xff),
-        Byte(0, 0x02),
-        Select(false),
-    ];
-    perform(&rt, &mut spi, &reset);
-    command(&rt, &mut spi, 0x20, [1, 0, 0]);
-    let through = [
-        Select(false),
-        Reset,
-        Control(1),
-        Wait(63_997),
-        Holds(0x1_0000, 0),
-        Wait(1),
-        Holds(0x1_0000, 0xff),
-    ];
-    perform(&rt, &mut spi, &through);
+    perform(&rt, &mut spi, SMALL);
+    perform(&rt, &mut spi, LARGE);
+    perform(&rt, &mut spi, UNFINISHED);
+    perform(&rt, &mut spi, RESETS);
 }
 
 /// The cycles in which credits go up, of a unit that is given these messages.
@@ -288,7 +319,7 @@ fn gives_credits(rt: &impl Abort, spi: &mut Spi, downs: &[(Cycle, Down)], credit
             Some(up) => up.credit,
             None => false,
         };
-        assert_eq!(rt; credit, credits.contains(&now), "in {now}");
+        assert!(rt; credit == credits.contains(&now), "in {now}");
     }
 }
 

@@ -3,10 +3,11 @@
 use chip_base::{IssueRecord, PhaseWord};
 use core_pair::Core;
 use soc_bus::{BusFault, Memory, Request, Width};
+use std::process::Abort;
 use std::test::Fail;
 
 /// A word at 8, the word at 0 when it is issued, and what stands then in x1, mcause and mtval.
-const CASES: [(u32, u32, u32, u32, u32); 28] = [
+const CASES: &[(u32, u32, u32, u32, u32)] = &[
     (0x0000_0073, 0, 0, 11, 0),
     (0x0010_0073, 0, 0, 3, 8),
     (0x0000_9002, 0, 0, 3, 8),
@@ -74,21 +75,23 @@ fn trapped(core: &Core, pc: u32, cause: u32, value: u32) -> bool {
         && core.csr(0x343, 0) == Some(value)
 }
 
+/// Whether hart 1 leaves what a case has, and retired one instruction or trapped.
+fn leaves(memory: &mut Memory, case: &(u32, u32, u32, u32, u32)) -> bool {
+    let (word, first, x1, cause, value) = *case;
+    put_words(memory, 0, &[first, 0, word]);
+    let mut core = Core::new(1);
+    core.start(9, 0);
+    run(&mut core, memory, 1);
+    let view = core.view();
+    let pc = if cause == 0 { 0 } else { 8 };
+    view.regs[1] == x1 && view.retired == u64::from(cause == 0) && trapped(&core, pc, cause, value)
+}
+
 #[test]
 fn one_instruction_each(rt: HostRuntime) -> Result<(), Fail> {
     let mut memory = Memory::new(rt.alloc(), 4096, 4096)?;
-    for (word, first, x1, cause, value) in CASES {
-        put_words(&mut memory, 0, &[first, 0, word]);
-        let mut core = Core::new(1);
-        core.start(9, 0);
-        run(&mut core, &mut memory, 1);
-        let view = core.view();
-        let pc = if cause == 0 { 0 } else { 8 };
-        assert!(rt;
-            view.regs[1] == x1 && trapped(&core, pc, cause, value),
-            "after {word}"
-        );
-        assert!(rt; view.retired == u64::from(cause == 0), "retired by {word}");
+    for case in CASES {
+        assert!(&rt; leaves(&mut memory, case), "after {}", case.0);
     }
     Ok(())
 }
@@ -154,31 +157,45 @@ fn returns(memory: &mut Memory) -> bool {
     core.view().pc == 8 && core.csr(0x300, 0) == Some(0x1880)
 }
 
+/// Whether a core retired the three instructions before wfi, and wfi.
+fn is_asleep(core: &Core) -> bool {
+    let view = core.view();
+    view.phase == PhaseWord::Sleep && view.retired == 4
+}
+
+/// Whether a core has this pc and mcause.
+fn woke(core: &Core, pc: u32, cause: u32) -> bool {
+    let view = core.view();
+    let caused = core.csr(0x342, 0) == Some(cause);
+    caused && view.pc == pc
+}
+
 /// wfi, after `last` set MIE or left it; then its timer interrupt comes.
 fn sleeps(memory: &mut Memory, last: u32, next: u32, cause: u32) -> bool {
     let words = [0x0800_0193, 0x3041_9073, last, 0x1050_0073, 0x0000_006f];
     put_words(memory, 0, &words);
     let mut core = Core::new(0);
     run(&mut core, memory, 30);
-    let asleep = core.view().phase == PhaseWord::Sleep && core.view().retired == 4;
-    let issued = core.issue(30, 0x80, memory);
-    asleep
-        && issued.is_some() == (cause == 0)
-        && core.csr(0x342, 0) == Some(cause)
-        && core.view().pc == next
+    let asleep = is_asleep(&core);
+    let issued = core.issue(30, 0x80, memory).is_some();
+    asleep && issued == (cause == 0) && woke(&core, next, cause)
+}
+
+fn short_programs_of(rt: &impl Abort, memory: &mut Memory) {
+    assert!(rt; refuses_narrow(memory));
+    assert!(rt; issues_last_parcel(memory));
+    assert!(rt; faults(memory, 0x0000_0ffe, 0x0000_1000));
+    assert!(rt; faults(memory, 0x4000_0000, 0x4000_0000));
+    assert!(rt; ignores_vectors(memory));
+    assert!(rt; counts_retired(memory));
+    assert!(rt; returns(memory));
+    assert!(rt; sleeps(memory, 0x3004_5073, 0, 0x8000_0007));
+    assert!(rt; sleeps(memory, 0x3000_5073, 0x10, 0));
 }
 
 #[test]
 fn short_programs(rt: HostRuntime) -> Result<(), Fail> {
     let mut memory = Memory::new(rt.alloc(), 4096, 4096)?;
-    assert!(rt; refuses_narrow(&mut memory));
-    assert!(rt; issues_last_parcel(&mut memory));
-    assert!(rt; faults(&memory, 0x0000_0ffe, 0x0000_1000));
-    assert!(rt; faults(&memory, 0x4000_0000, 0x4000_0000));
-    assert!(rt; ignores_vectors(&mut memory));
-    assert!(rt; counts_retired(&mut memory));
-    assert!(rt; returns(&mut memory));
-    assert!(rt; sleeps(&mut memory, 0x3004_5073, 0, 0x8000_0007));
-    assert!(rt; sleeps(&mut memory, 0x3000_5073, 0x10, 0));
+    short_programs_of(&rt, &mut memory);
     Ok(())
 }

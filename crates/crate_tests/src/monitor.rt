@@ -1,16 +1,10 @@
 //! Sessions with a monitor over a UART and a flash that are always ready.
 
 use boot_monitor::{Monitor, MonitorIn, MonitorOut};
-use std::alloc::Global;
-use std::test::Fail;
+use std::alloc::{AllocError, Global};
 
-/// An image with two words of payload: its signature, 8, and the checksum word of 00000513 and 0000006f.
-const IMAGE: [u8; 20] = [
-    0xfe, 0xca, 0x88, 0x47, 0x08, 0x00, 0x00, 0x00, 0x7e, 0xfa, 0xff, 0xff, 0x13, 0x05, 0x00, 0x00,
-    0x6f, 0x00, 0x00, 0x00,
-];
-
-/// What the flash answers where that image is loaded from it: the status, the header and the payload, each after its command.
+/// What the flash answers where an image with the words 00000513 and 0000006f is loaded from it: the status, the header and the
+/// payload, each after its command.
 const READ: [u8; 30] = [
     0xff, 0x00, 0xff, 0xff, 0xff, 0xff, 0xfe, 0xca, 0x88, 0x47, 0x08, 0x00, 0x00, 0x00, 0x7e, 0xfa,
     0xff, 0xff, 0xff, 0xff, 0xff, 0xff, 0x13, 0x05, 0x00, 0x00, 0x6f, 0x00, 0x00, 0x00,
@@ -47,7 +41,7 @@ fn answer(addr: u32, next: Option<u8>, flash: Option<u8>) -> u32 {
 }
 
 /// What a monitor does while these bytes are typed, and the flash answers these, and then 02.
-fn act_on(alloc: Global, typed: &[u8], read: &[u8]) -> Result<Session, Fail> {
+fn act_on(alloc: Global, typed: &[u8], read: &[u8]) -> Result<Session, AllocError> {
     let mut monitor = Monitor::new(4096, 0x41);
     let mut sent = Vec::new(alloc);
     let mut flashed = Vec::new(alloc);
@@ -90,78 +84,67 @@ fn next_place(place: usize, taken: bool) -> usize {
     if taken { place.wrapping_add(1) } else { place }
 }
 
-/// `u`, the image with this last byte, and this command.
-fn uploaded(alloc: Global, last: u8, command: u8) -> Result<Vec<u8>, Fail> {
-    let mut typed = Vec::new(alloc);
-    typed.push(b'u')?;
-    typed.extend_from_slice(&IMAGE[..19])?;
-    typed.push(last)?;
-    typed.push(command)?;
-    Ok(typed)
+/// `u`, an image with this last byte, and this command. The image has the signature, the length 8, and the checksum word of 00000513
+/// and 0000006f.
+fn uploaded(last: u8, command: u8) -> [u8; 22] {
+    [
+        b'u', 0xfe, 0xca, 0x88, 0x47, 0x08, 0x00, 0x00, 0x00, 0x7e, 0xfa, 0xff, 0xff, 0x13, 0x05,
+        0x00, 0x00, 0x6f, 0x00, 0x00, last, command,
+    ]
 }
 
 #[test]
-fn executes_an_upload(rt: HostRuntime) -> Result<(), Fail> {
-    let typed = uploaded(rt.alloc(), 0x00, b'e')?;
+fn executes_an_upload(rt: HostRuntime) -> Result<(), AllocError> {
+    let typed = uploaded(0x00, b'e');
     let session = act_on(rt.alloc(), &typed, &[])?;
-    assert_eq!(rt;
-        session.sent.as_slice(),
-        b"N1\r\n> UP\r\nOK\r\n> GO\r\n".as_slice()
-    );
-    let stored = [(0xfff5_0000, 0x41), (0, 0x0513), (4, 0x006f)];
-    assert!(rt; session.stored.as_slice() == stored.as_slice());
+    assert!(rt; session.sent.as_slice() == b"N1\r\n> UP\r\nOK\r\n> GO\r\n".as_slice());
+    let stored: &[(u32, u32)] = &[(0xfff5_0000, 0x41), (0, 0x0513), (4, 0x006f)];
+    assert!(rt; session.stored.as_slice() == stored);
     assert!(rt; session.over);
     Ok(())
 }
 
 #[test]
-fn refuses_a_damaged_upload(rt: HostRuntime) -> Result<(), Fail> {
-    let typed = uploaded(rt.alloc(), 0x01, b'e')?;
+fn refuses_a_damaged_upload(rt: HostRuntime) -> Result<(), AllocError> {
+    let typed = uploaded(0x01, b'e');
     let session = act_on(rt.alloc(), &typed, &[])?;
-    assert_eq!(rt;
-        session.sent.as_slice(),
-        b"N1\r\n> UP\r\nERR checksum\r\n> ERR none\r\n> ".as_slice()
+    assert!(rt;
+        session.sent.as_slice() == b"N1\r\n> UP\r\nERR checksum\r\n> ERR none\r\n> ".as_slice()
     );
     assert!(rt; !session.over);
     Ok(())
 }
 
 #[test]
-fn tells_the_settings(rt: HostRuntime) -> Result<(), Fail> {
+fn tells_the_settings(rt: HostRuntime) -> Result<(), AllocError> {
     let session = act_on(rt.alloc(), b"i", &[])?;
-    assert_eq!(rt;
-        session.sent.as_slice(),
-        b"N1\r\n> IMEM 00010000 DMEM 00008000 CLK 05f5e100\r\n> ".as_slice()
+    assert!(rt;
+        session.sent.as_slice()
+            == b"N1\r\n> IMEM 00010000 DMEM 00008000 CLK 05f5e100\r\n> ".as_slice()
     );
     Ok(())
 }
 
 #[test]
-fn stores_an_upload(rt: HostRuntime) -> Result<(), Fail> {
-    let typed = uploaded(rt.alloc(), 0x00, b's')?;
+fn stores_an_upload(rt: HostRuntime) -> Result<(), AllocError> {
+    let typed = uploaded(0x00, b's');
     let session = act_on(rt.alloc(), &typed, &[])?;
-    assert_eq!(rt;
-        session.sent.as_slice(),
-        b"N1\r\n> UP\r\nOK\r\n> OK\r\n> ".as_slice()
-    );
-    let flashed = [
+    assert!(rt; session.sent.as_slice() == b"N1\r\n> UP\r\nOK\r\n> OK\r\n> ".as_slice());
+    let flashed: &[u8] = &[
         0x05, 0x00, 0x06, 0x05, 0x00, 0x06, 0x20, 0x40, 0x00, 0x00, 0x05, 0x00, 0x06, 0x02, 0x40,
         0x01, 0x00, 0x13, 0x05, 0x00, 0x00, 0x6f, 0x00, 0x00, 0x00, 0x05, 0x00, 0x06, 0x02, 0x40,
         0x00, 0x00, 0xfe, 0xca, 0x88, 0x47, 0x08, 0x00, 0x00, 0x00, 0x7e, 0xfa, 0xff, 0xff, 0x05,
         0x00,
     ];
-    assert!(rt; session.flashed.as_slice() == flashed.as_slice());
+    assert!(rt; session.flashed.as_slice() == flashed);
     Ok(())
 }
 
 #[test]
-fn executes_what_it_loads(rt: HostRuntime) -> Result<(), Fail> {
+fn executes_what_it_loads(rt: HostRuntime) -> Result<(), AllocError> {
     let session = act_on(rt.alloc(), b"le", &READ)?;
-    assert_eq!(rt;
-        session.sent.as_slice(),
-        b"N1\r\n> OK\r\n> GO\r\n".as_slice()
-    );
-    let stored = [
+    assert!(rt; session.sent.as_slice() == b"N1\r\n> OK\r\n> GO\r\n".as_slice());
+    let stored: &[(u32, u32)] = &[
         (0xfff5_0000, 0x41),
         (0xfff8_0000, 1),
         (0xfff8_0008, 1),
@@ -173,7 +156,7 @@ fn executes_what_it_loads(rt: HostRuntime) -> Result<(), Fail> {
         (4, 0x006f),
         (0xfff8_0008, 0),
     ];
-    assert!(rt; session.stored.as_slice() == stored.as_slice());
+    assert!(rt; session.stored.as_slice() == stored);
     assert!(rt; session.over);
     Ok(())
 }

@@ -20,15 +20,16 @@ fn is_refused(alloc: Global, text: &[u8], line: u32, kind: ScriptKind) -> bool {
 /// One fault of each kind, in the first faulty line and in a line's first faulty field.
 #[test]
 fn refuses_scripts(rt: HostRuntime) {
-    for (text, line, kind) in [
-        (b"pin 4 0 1\npin 5 32 1\n".as_slice(), 2, ScriptKind::Pin),
+    let faulty: &[(&[u8], u32, ScriptKind)] = &[
+        (b"pin 4 0 1\npin 5 32 1\n", 2, ScriptKind::Pin),
         (b"# pins\r\n\r\nuart2 image\n", 3, ScriptKind::Word),
         (b"pin 5 1 1\nuart0 wait\npin x\n", 2, ScriptKind::Word),
         (b"pin 5 x 9", 1, ScriptKind::Number),
         (b"pin 5 1 1\n\npin 4 40 1\nuart0\n", 3, ScriptKind::Order),
         (b"uart0 hex 41f", 1, ScriptKind::Hex),
         (b"uart0 expect \"\" x", 1, ScriptKind::Text),
-    ] {
+    ];
+    for &(text, line, kind) in faulty {
         assert!(&rt; is_refused(rt.alloc(), text, line, kind));
     }
 }
@@ -49,16 +50,17 @@ fn is_printed(alloc: Global, text: &[u8], printed: &[u8]) -> bool {
 
 #[test]
 fn prints_scripts(rt: HostRuntime) {
-    for (text, printed) in [
+    let scripts: &[(&[u8], &[u8])] = &[
         (
-            b"#\r\n\tuart1 image\npin 7 3 0\r\nuart0 expect \"> \"\nuart0 send \"\"\nuart0 at 10\n".as_slice(),
-            b"pin 7 3 0\nuart0 expect \"> \"\nuart0 send \"\"\nuart0 at 10\nuart1 image\n".as_slice(),
+            b"#\r\n\tuart1 image\npin 7 3 0\r\nuart0 expect \"> \"\nuart0 send \"\"\nuart0 at 10\n",
+            b"pin 7 3 0\nuart0 expect \"> \"\nuart0 send \"\"\nuart0 at 10\nuart1 image\n",
         ),
         (
             b"pin 0 31 01\nuart0 send \"A\\r\"\nuart1 expect \"a\\\"\\\\\\n~\"",
             b"pin 0 31 1\nuart0 hex 410d\nuart1 expect \"a\\x22\\x5c\\x0a~\"\n",
         ),
-    ] {
+    ];
+    for &(text, printed) in scripts {
         assert!(&rt; is_printed(rt.alloc(), text, printed));
         assert!(&rt; is_printed(rt.alloc(), printed, printed));
     }
@@ -84,12 +86,8 @@ fn is_faulty(alloc: Global, text: &[u8], fault: Fault, key: &[u8]) -> bool {
 
 #[test]
 fn refuses_chip_files(rt: HostRuntime) {
-    for (text, fault, key) in [
-        (
-            b"[delay]\nuart0 = 4097\n".as_slice(),
-            Fault::Range,
-            b"delay.uart0".as_slice(),
-        ),
+    let faulty: &[(&[u8], Fault, &[u8])] = &[
+        (b"[delay]\nuart0 = 4097\n", Fault::Range, b"delay.uart0"),
         (b"[delay]\nhub = 3\n", Fault::Key, b"delay.hub"),
         (
             b"imem = 5000\nflash = 1\nbaud = 1024\n",
@@ -99,7 +97,8 @@ fn refuses_chip_files(rt: HostRuntime) {
         (b"clock = \"1\"", Fault::Key, b"clock"),
         (b"baud = 1\nbaud = 2\n", Fault::Toml, b""),
         (b"# \xff\n", Fault::Toml, b""),
-    ] {
+    ];
+    for &(text, fault, key) in faulty {
         assert!(&rt; is_faulty(rt.alloc(), text, fault, key));
     }
 }

@@ -38,14 +38,14 @@ fn finds_replaces_and_adds(rt: &impl Abort, shelf: &mut MemShelf) {
     assert!(rt; shelf.file("other").is_none());
     assert!(rt; shelf.write("twice", b"new").is_ok());
     assert!(rt; shelf.write("other", b"added").is_ok());
-    assert_eq!(rt; shelf.write("empty", b"third"), Err(ShelfFault::Failed));
+    assert!(rt; shelf.write("empty", b"third") == Err(ShelfFault::Failed));
     assert!(rt; holds(shelf, "twice", b"new"));
     assert!(rt; holds(shelf, "empty", b""));
     assert!(rt; holds(shelf, "other", b"added"));
 }
 
 #[test]
-fn files_in_memory_are_found_replaced_and_added(rt: HostRuntime) -> Result<(), Fail> {
+fn files_in_memory_are_found_replaced_and_added(rt: HostRuntime) -> Result<(), AllocError> {
     let alloc = rt.alloc();
     let given: [(&str, &[u8]); 3] = [("twice", b"first"), ("empty", b""), ("twice", b"second")];
     let files = files_of(alloc, &given)?;
@@ -78,7 +78,7 @@ fn refuses(
 
 /// The second read fails.
 #[test]
-fn reads_in_memory_fail_by_number_length_and_name(rt: HostRuntime) -> Result<(), Fail> {
+fn reads_in_memory_fail_by_number_length_and_name(rt: HostRuntime) -> Result<(), AllocError> {
     let alloc = rt.alloc();
     let given: [(&str, &[u8]); 1] = [("a", b"abc")];
     let files = files_of(alloc, &given)?;
@@ -92,15 +92,15 @@ fn reads_in_memory_fail_by_number_length_and_name(rt: HostRuntime) -> Result<(),
 
 /// The second text is lost.
 fn appends(rt: &impl Abort, sink: &mut MemSink) {
-    assert_eq!(rt; sink.bytes(), b"".as_slice());
+    assert!(rt; sink.bytes() == b"".as_slice());
     assert!(rt; sink.put(b"ab").is_ok());
-    assert_eq!(rt; sink.put(b"lost"), Err(SinkFault::Failed));
+    assert!(rt; sink.put(b"lost") == Err(SinkFault::Failed));
     assert!(rt; sink.put(b"cd").is_ok());
-    assert_eq!(rt; sink.bytes(), b"abcd".as_slice());
+    assert!(rt; sink.bytes() == b"abcd".as_slice());
 }
 
 #[test]
-fn text_in_memory_is_appended(rt: HostRuntime) -> Result<(), Fail> {
+fn text_in_memory_is_appended(rt: HostRuntime) -> Result<(), AllocError> {
     let alloc = rt.alloc();
     let mut sink = MemSink::new(alloc, vec![in alloc; 2]?);
     appends(&rt, &mut sink);
@@ -118,7 +118,7 @@ fn files_of_the_system_are_written_and_read(rt: HostRuntime) -> Result<(), Fail>
     assert!(rt; refuses(alloc, &mut shelf, name, 4, ShelfFault::Long { limit: 4 }));
     fs::remove_file(&rt, name)?;
     assert!(rt; refuses(alloc, &mut shelf, name, 5, ShelfFault::Failed));
-    assert_eq!(rt; shelf.write("", b"bytes"), Err(ShelfFault::Failed));
+    assert!(rt; shelf.write("", b"bytes") == Err(ShelfFault::Failed));
     Ok(())
 }
 
@@ -176,21 +176,18 @@ fn puts_two_lines(rt: &impl Abort, narrow: &mut Narrow) {
 fn a_writer_takes_the_text_in_pieces(rt: HostRuntime) {
     let mut narrow = Narrow::new(rt.alloc(), 20, None);
     puts_two_lines(&rt, &mut narrow);
-    assert_eq!(rt; narrow.taken.as_slice(), b"a line\nanother\n".as_slice());
-    assert_eq!(rt; narrow.flushes, 2);
+    assert!(rt; narrow.taken.as_slice() == b"a line\nanother\n".as_slice());
+    assert!(rt; narrow.flushes == 2);
     narrow.flush_fails = true;
-    assert_eq!(rt;
-        OutSink::new(&mut narrow).put(b"\n"),
-        Err(SinkFault::Failed)
-    );
+    assert!(rt; OutSink::new(&mut narrow).put(b"\n") == Err(SinkFault::Failed));
 }
 
 /// There is room for five bytes.
 fn puts_until_full(rt: &impl Abort, narrow: &mut Narrow) {
     let mut sink = OutSink::new(narrow);
     assert!(rt; sink.put(b"ab").is_ok());
-    assert_eq!(rt; sink.put(b"cdefg"), Err(SinkFault::Failed));
-    assert_eq!(rt; sink.put(b"h"), Err(SinkFault::Failed));
+    assert!(rt; sink.put(b"cdefg") == Err(SinkFault::Failed));
+    assert!(rt; sink.put(b"h") == Err(SinkFault::Failed));
     assert!(rt; sink.put(b"").is_ok());
 }
 
@@ -199,22 +196,19 @@ fn a_writer_that_stops_in_mid_stream_is_a_fault(rt: HostRuntime) {
     for full in [None, Some(ErrorKind::BrokenPipe)] {
         let mut narrow = Narrow::new(rt.alloc(), 5, full);
         puts_until_full(&rt, &mut narrow);
-        assert_eq!(rt; narrow.taken.as_slice(), b"abcde".as_slice());
-        assert_eq!(rt; narrow.flushes, 2);
+        assert!(rt; narrow.taken.as_slice() == b"abcde".as_slice());
+        assert!(rt; narrow.flushes == 2);
     }
 }
 
 #[test]
 fn faults_are_shown(rt: HostRuntime) -> Result<(), Fail> {
     let alloc = rt.alloc();
-    assert_eq!(rt;
-        format!(in alloc; "{}", ShelfFault::Long { limit: 16 })?.as_str(),
-        "the file has more than 16 bytes"
+    assert!(rt;
+        format!(in alloc; "{}", ShelfFault::Long { limit: 16 })?.as_str()
+            == "the file has more than 16 bytes"
     );
-    assert_eq!(rt;
-        format!(in alloc; "{}", SinkFault::Memory)?.as_str(),
-        "out of memory"
-    );
-    assert_eq!(rt; SinkFault::from(AllocError), SinkFault::Memory);
+    assert!(rt; format!(in alloc; "{}", SinkFault::Memory)?.as_str() == "out of memory");
+    assert!(rt; SinkFault::from(AllocError) == SinkFault::Memory);
     Ok(())
 }

@@ -2,9 +2,8 @@
 
 use bench_shelf::{MemSink, SinkFault};
 use chip_base::{Event, EventKind, HartView, IssueRecord, PhaseWord};
-use std::alloc::Global;
+use std::alloc::{AllocError, Global};
 use std::process::Abort;
-use std::test::Fail;
 use trace_text::{RowKind, event_line, hart_lines, row_line, trace_line};
 
 /// An empty sink that fails at no call.
@@ -21,15 +20,17 @@ fn traces(rt: &impl Abort, alloc: Global, pc: u32, word: u32, text: &str) {
         word,
     };
     let mut sink = sink(alloc);
-    assert!(rt; trace_line(&issue, &mut sink).is_ok());
-    assert!(rt; sink.bytes().starts_with(b"trace 18 1 "), "at {word:08x}");
-    assert!(rt; sink.bytes().ends_with(text.as_bytes()), "at {word:08x}");
-    assert_eq!(rt; sink.bytes().len(), 11 + text.len(), "at {word:08x}");
+    let told = trace_line(&issue, &mut sink).is_ok();
+    let line = sink.bytes();
+    let begins = line.starts_with(b"trace 18 1 ");
+    let ends = line.ends_with(text.as_bytes());
+    let fits = line.len() == text.len().saturating_add(11);
+    assert!(rt; told && begins && ends && fits, "at {word:08x}");
 }
 
 #[test]
 fn traces_words(rt: HostRuntime) {
-    let lines = [
+    for &(pc, word, text) in &[
         (
             0x0000_0000,
             0x0073_02b3,
@@ -205,15 +206,14 @@ fn traces_words(rt: HostRuntime) {
         (0x0000_0000, 0x0000_3023, "00000000 00003023 illegal\n"),
         (0x0000_0000, 0x0205_1513, "00000000 02051513 illegal\n"),
         (0x0000_0000, 0x0020_0073, "00000000 00200073 illegal\n"),
-    ];
-    for (pc, word, text) in lines {
+    ] {
         traces(&rt, rt.alloc(), pc, word, text);
     }
 }
 
 #[test]
 fn traces_parcels(rt: HostRuntime) {
-    let lines = [
+    for &(pc, word, text) in &[
         (0x0000_0100, 0x0000_0001, "00000100 0001 addi x0, x0, 0\n"),
         (0x0000_0100, 0x0000_557d, "00000100 557d addi x10, x0, -1\n"),
         (0x0000_0100, 0x0000_1141, "00000100 1141 addi x2, x2, -16\n"),
@@ -254,8 +254,7 @@ fn traces_parcels(rt: HostRuntime) {
         (0x0000_0100, 0x0000_9c01, "00000100 9c01 illegal\n"),
         (0x0000_0100, 0x0000_8002, "00000100 8002 illegal\n"),
         (0x0000_0100, 0x0000_4002, "00000100 4002 illegal\n"),
-    ];
-    for (pc, word, text) in lines {
+    ] {
         traces(&rt, rt.alloc(), pc, word, text);
     }
 }
@@ -271,12 +270,19 @@ fn the_longest_trace_fits(rt: HostRuntime) {
     let mut sink = sink(rt.alloc());
     assert!(&rt; trace_line(&issue, &mut sink).is_ok());
     let text = b"trace 18446744073709551615 255 ffffffff 800fff93 andi x31, x31, -2048\n";
-    assert_eq!(&rt; sink.bytes(), text.as_slice());
+    assert!(&rt; sink.bytes() == text.as_slice());
+}
+
+/// Whether an event has this line.
+fn is_told(alloc: Global, event: &Event, text: &str) -> bool {
+    let mut sink = sink(alloc);
+    let told = event_line(event, &mut sink).is_ok();
+    told && sink.bytes() == text.as_bytes()
 }
 
 #[test]
 fn events_go_by_their_units(rt: HostRuntime) {
-    let events = [
+    for &(cycle, unit, kind, value, text) in &[
         (7, 1, EventKind::Tx, 0x41, "7 uart0 tx 41\n"),
         (0, 2, EventKind::Tx, 0xffff_ff0a, "0 uart1 tx 0a\n"),
         (
@@ -300,17 +306,14 @@ fn events_go_by_their_units(rt: HostRuntime) {
         (106, 1, EventKind::Fire, 0x141, "106 uart0 fire 41\n"),
         (107, 0, EventKind::Out, 1, "107 hub out 00000001\n"),
         (108, 8, EventKind::Last, 1, "108 hub last 00000001\n"),
-    ];
-    for (cycle, unit, kind, value, text) in events {
+    ] {
         let event = Event {
             cycle,
             unit,
             kind,
             value,
         };
-        let mut sink = sink(rt.alloc());
-        assert!(&rt; event_line(&event, &mut sink).is_ok());
-        assert_eq!(&rt; sink.bytes(), text.as_bytes());
+        assert!(&rt; is_told(rt.alloc(), &event, text), "{text}");
     }
 }
 
@@ -327,9 +330,16 @@ fn view(phase: PhaseWord) -> HartView {
     }
 }
 
+/// Whether hart 0 has these lines.
+fn has_lines(alloc: Global, view: &HartView, text: &str) -> bool {
+    let mut sink = sink(alloc);
+    let told = hart_lines(0, view, &mut sink).is_ok();
+    told && sink.bytes() == text.as_bytes()
+}
+
 #[test]
 fn a_hart_has_a_line_for_each_register_that_is_set(rt: HostRuntime) {
-    let lines = [
+    for &(phase, text) in &[
         (
             PhaseWord::Ready,
             "hart 0 ready pc 80000010 retired 12\nx1 0000002a\nx31 ffffffff\n",
@@ -351,23 +361,20 @@ fn a_hart_has_a_line_for_each_register_that_is_set(rt: HostRuntime) {
             "hart 0 monitor pc 80000010 retired 12\nx1 0000002a\nx31 ffffffff\n",
         ),
         (PhaseWord::Parked, "hart 0 parked\n"),
-    ];
-    for (phase, text) in lines {
-        let mut sink = sink(rt.alloc());
-        assert!(&rt; hart_lines(0, &view(phase), &mut sink).is_ok());
-        assert_eq!(&rt; sink.bytes(), text.as_bytes());
+    ] {
+        assert!(&rt; has_lines(rt.alloc(), &view(phase), text), "{text}");
     }
 }
 
 /// Each line is one call of the sink, so the second call's text is lost alone.
 #[test]
-fn a_refused_line_ends_a_hart(rt: HostRuntime) -> Result<(), Fail> {
+fn a_refused_line_ends_a_hart(rt: HostRuntime) -> Result<(), AllocError> {
     let alloc = rt.alloc();
     let mut sink = MemSink::new(alloc, vec![in alloc; 2]?);
-    let refused = hart_lines(1, &view(PhaseWord::Run), &mut sink);
-    assert_eq!(&rt; refused, Err(SinkFault::Failed));
+    let refused = hart_lines(1, &view(PhaseWord::Run), &mut sink) == Err(SinkFault::Failed);
+    assert!(&rt; refused);
     let text = b"hart 1 run pc 80000010 retired 12\n";
-    assert_eq!(&rt; sink.bytes(), text.as_slice());
+    assert!(&rt; sink.bytes() == text.as_slice());
     Ok(())
 }
 
@@ -381,5 +388,5 @@ fn rows_have_sixteen_bytes(rt: HostRuntime) {
     assert!(&rt; row_line(RowKind::Flash, 0x10, &[0; 16], &mut sink).is_ok());
     let text =
         b"mem 80000040 000123456789abcdefff000000000010\nflash 00000010 00000000000000000000000000000000\n";
-    assert_eq!(&rt; sink.bytes(), text.as_slice());
+    assert!(&rt; sink.bytes() == text.as_slice());
 }

@@ -1,7 +1,7 @@
 //! Small values, at the ends of their ranges.
 
 use chip_base::{Bytes, Groups, Name, PinStep, Pins, Steps0, UartStep};
-use std::test::Fail;
+use std::alloc::AllocError;
 
 #[test]
 fn reads_texts(rt: HostRuntime) {
@@ -14,7 +14,7 @@ fn reads_texts(rt: HostRuntime) {
 
 /// Pin changes may come in one cycle, and not in an earlier one than the change before.
 #[test]
-fn takes_lists(rt: HostRuntime) -> Result<(), Fail> {
+fn takes_lists(rt: HostRuntime) -> Result<(), AllocError> {
     let step = |cycle| PinStep {
         cycle,
         pin: 31,

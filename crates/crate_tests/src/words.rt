@@ -1,10 +1,10 @@
 //! Words as they are typed.
 
 use bench_parts::{Counter, Loop, NamedPart, Part, Scramble};
-use bench_words::{Job, RunJob, read_job};
-use chip_base::{Boot, Name};
+use bench_words::{CheckJob, DebugJob, DemoJob, ImageJob, Job, RunJob, read_job};
+use chip_base::{Boot, Groups, Name};
 use std::alloc::{AllocError, Global};
-use std::test::Fail;
+use std::process::Abort;
 
 /// The words of a line, one blank between each two.
 fn words_of(alloc: Global, line: &str) -> Result<Vec<String>, AllocError> {
@@ -15,121 +15,89 @@ fn words_of(alloc: Global, line: &str) -> Result<Vec<String>, AllocError> {
     Ok(words)
 }
 
-/// What a run is to hold.
-#[derive(Clone, Copy)]
-struct Wanted<'a> {
-    image: &'a str,
-    cycles: u32,
-    boot: Boot,
-    chip: Option<&'a str>,
-    script: Option<&'a str>,
-    groups: [u8; 8],
-    part: Option<&'a str>,
-    trace: u32,
-}
+/// A raw run of `a.bin` over ten cycles, with all lanes together, on the standard chip without a script, a part and a trace.
+const PLAIN: RunJob<'static> = RunJob {
+    image: "a.bin",
+    cycles: 10,
+    boot: Boot::Raw,
+    chip: None,
+    script: None,
+    groups: Groups { of: [0; 8] },
+    part: None,
+    trace: 0,
+};
 
-/// All lanes run together, on the standard chip without a script, a part and a trace.
-fn plain<'a>(image: &'a str, cycles: u32) -> Wanted<'a> {
-    Wanted {
-        image,
-        cycles,
-        boot: Boot::Raw,
-        chip: None,
-        script: None,
-        groups: [0; 8],
-        part: None,
-        trace: 0,
-    }
-}
-
-fn is_wanted(job: &RunJob<'_>, wanted: &Wanted<'_>) -> bool {
-    let image = job.image == wanted.image;
-    let cycles = job.cycles == wanted.cycles;
-    let boot = job.boot == wanted.boot;
-    let chip = job.chip == wanted.chip;
-    let script = job.script == wanted.script;
-    let groups = job.groups.of == wanted.groups;
-    let part = job.part == wanted.part;
-    let trace = job.trace == wanted.trace;
+fn is_run(found: &RunJob<'_>, wanted: &RunJob<'_>) -> bool {
+    let image = found.image == wanted.image;
+    let cycles = found.cycles == wanted.cycles;
+    let boot = found.boot == wanted.boot;
+    let chip = found.chip == wanted.chip;
+    let script = found.script == wanted.script;
+    let groups = found.groups.of == wanted.groups.of;
+    let part = found.part == wanted.part;
+    let trace = found.trace == wanted.trace;
     image && cycles && boot && chip && script && groups && part && trace
 }
 
-/// Whether the words of a line give this run, where these parts were handed in.
-fn gives(alloc: Global, parts: &[NamedPart], line: &str, wanted: &Wanted<'_>) -> bool {
-    let Ok(words) = words_of(alloc, line) else {
-        return false;
-    };
-    match read_job(alloc, &words, parts) {
-        Ok(Some(Job::Run(job))) => is_wanted(&job, wanted),
+fn is_debug(found: &DebugJob<'_>, wanted: &DebugJob<'_>) -> bool {
+    found.commands == wanted.commands && is_run(&found.run, &wanted.run)
+}
+
+fn is_demo(found: &DemoJob, wanted: &DemoJob) -> bool {
+    found.number == wanted.number && found.groups.of == wanted.groups.of
+}
+
+fn is_image(found: &ImageJob<'_>, wanted: &ImageJob<'_>) -> bool {
+    let payload = found.payload == wanted.payload;
+    let out = found.out == wanted.out;
+    let chip = found.chip == wanted.chip;
+    payload && out && chip
+}
+
+fn is_check(found: &CheckJob<'_>, wanted: &CheckJob<'_>) -> bool {
+    let image = found.image == wanted.image;
+    let chip = found.chip == wanted.chip;
+    image && chip
+}
+
+fn is_job(found: &Job<'_>, wanted: &Job<'_>) -> bool {
+    match (found, wanted) {
+        (Job::Run(found), Job::Run(wanted)) => is_run(found, wanted),
+        (Job::Debug(found), Job::Debug(wanted)) => is_debug(found, wanted),
+        (Job::Demo(found), Job::Demo(wanted)) => is_demo(found, wanted),
+        (Job::Image(found), Job::Image(wanted)) => is_image(found, wanted),
+        (Job::Check(found), Job::Check(wanted)) => is_check(found, wanted),
         _ => false,
     }
 }
 
-/// Whether the words of a line give a session of the debugger through this run, with this file of commands.
-fn debugs(alloc: Global, line: &str, wanted: &Wanted<'_>, commands: &str) -> bool {
-    let Ok(words) = words_of(alloc, line) else {
-        return false;
-    };
-    match read_job(alloc, &words, &[]) {
-        Ok(Some(Job::Debug(job))) => is_wanted(&job.run, wanted) && job.commands == commands,
+/// Whether these words give this job, or none, where these parts were handed in.
+fn gives(alloc: Global, parts: &[NamedPart], words: &[String], wanted: Option<&Job<'_>>) -> bool {
+    match (read_job(alloc, words, parts), wanted) {
+        (Ok(Some(found)), Some(wanted)) => is_job(&found, wanted),
+        (Ok(None), None) => true,
         _ => false,
     }
 }
 
-/// Whether the words of a line give the demo of this number, with these groups.
-fn demos(alloc: Global, line: &str, number: u32, groups: [u8; 8]) -> bool {
-    let Ok(words) = words_of(alloc, line) else {
-        return false;
-    };
-    match read_job(alloc, &words, &[]) {
-        Ok(Some(Job::Demo(job))) => job.number == number && job.groups.of == groups,
-        _ => false,
-    }
-}
-
-/// Whether the words of a line give the making of an image of this payload in this file.
-fn makes(alloc: Global, line: &str, payload: &str, out: &str, chip: Option<&str>) -> bool {
-    let Ok(words) = words_of(alloc, line) else {
-        return false;
-    };
-    match read_job(alloc, &words, &[]) {
-        Ok(Some(Job::Image(job))) => {
-            job.payload == payload && job.out == out && job.chip == chip
-        }
-        _ => false,
-    }
-}
-
-/// Whether the words of a line give the check of this image.
-fn checks(alloc: Global, line: &str, image: &str, chip: Option<&str>) -> bool {
-    let Ok(words) = words_of(alloc, line) else {
-        return false;
-    };
-    match read_job(alloc, &words, &[]) {
-        Ok(Some(Job::Check(job))) => job.image == image && job.chip == chip,
-        _ => false,
-    }
-}
-
-/// Whether these words give no job, where these parts were handed in.
-fn is_refused(alloc: Global, parts: &[NamedPart], words: &[String]) -> bool {
-    match read_job(alloc, words, parts) {
-        Ok(None) => true,
-        _ => false,
-    }
-}
-
-/// Whether the words of a line give no job, where these parts were handed in.
-fn is_line_refused(alloc: Global, parts: &[NamedPart], line: &str) -> bool {
-    match words_of(alloc, line) {
-        Ok(words) => is_refused(alloc, parts, &words),
+/// Asserts that the words of a line give this job, or none, where these parts were handed in.
+fn expect(
+    rt: &impl Abort,
+    alloc: Global,
+    parts: &[NamedPart],
+    line: &str,
+    wanted: Option<&Job<'_>>,
+) {
+    let ok = match words_of(alloc, line) {
+        Ok(words) => gives(alloc, parts, &words, wanted),
         Err(_) => false,
-    }
+    };
+    assert!(rt; ok, "{line}");
 }
 
 #[test]
-fn reads_jobs(rt: HostRuntime) {
-    for (line, image, cycles) in [
+fn reads_runs(rt: HostRuntime) {
+    for &(line, image, cycles) in &[
         ("run a.bin 10 --boot raw", "a.bin", 10),
         ("run --boot raw a.bin 10", "a.bin", 10),
         ("run a.bin --boot raw 10", "a.bin", 10),
@@ -142,25 +110,32 @@ fn reads_jobs(rt: HostRuntime) {
         ("run  10 --boot raw", "", 10),
         ("run --boot raw -- --a 10", "--a", 10),
     ] {
-        assert!(&rt;
-            gives(rt.alloc(), &[], line, &plain(image, cycles)),
-            "{line}"
-        );
+        let run = RunJob {
+            image,
+            cycles,
+            ..PLAIN
+        };
+        expect(&rt, rt.alloc(), &[], line, Some(&Job::Run(run)));
     }
-    for (line, boot) in [
+}
+
+#[test]
+fn reads_how_a_run_begins(rt: HostRuntime) {
+    for &(line, boot) in &[
         ("run a.bin 10", Boot::Monitor),
         ("run a.bin 10 --boot monitor", Boot::Monitor),
         ("run --boot=direct a.bin 10", Boot::Direct),
         ("run a.bin 10 --boot raw", Boot::Raw),
     ] {
-        let wanted = Wanted {
-            boot,
-            ..plain("a.bin", 10)
-        };
-        assert!(&rt; gives(rt.alloc(), &[], line, &wanted), "{line}");
+        let run = RunJob { boot, ..PLAIN };
+        expect(&rt, rt.alloc(), &[], line, Some(&Job::Run(run)));
     }
+}
+
+#[test]
+fn reads_the_files_and_groups_of_a_run(rt: HostRuntime) {
     let none: Option<&str> = None;
-    for (line, chip, script, groups) in [
+    for &(line, chip, script, groups) in &[
         (
             "run --chip c.toml a.bin --script s.txt 10 --boot raw",
             Some("c.toml"),
@@ -198,36 +173,33 @@ fn reads_jobs(rt: HostRuntime) {
             [0, 1, 1, 1, 2, 2, 2, 0],
         ),
     ] {
-        let wanted = Wanted {
-            image: "a.bin",
-            cycles: 10,
-            boot: Boot::Raw,
+        let run = RunJob {
             chip,
             script,
-            groups,
-            part: None,
-            trace: 0,
+            groups: Groups { of: groups },
+            ..PLAIN
         };
-        assert!(&rt; gives(rt.alloc(), &[], line, &wanted), "{line}");
+        expect(&rt, rt.alloc(), &[], line, Some(&Job::Run(run)));
     }
-    for (line, trace) in [
+}
+
+#[test]
+fn reads_how_much_a_run_traces(rt: HostRuntime) {
+    for &(line, trace) in &[
         ("run a.bin 10 --boot raw --trace 2", 2),
         ("run --trace=0000 a.bin 10 --boot raw", 0),
         ("run a.bin --trace=0999 10 --boot raw", 999),
         ("run a.bin 10 --boot raw --trace 1000", 1_000),
     ] {
-        let wanted = Wanted {
-            trace,
-            ..plain("a.bin", 10)
-        };
-        assert!(&rt; gives(rt.alloc(), &[], line, &wanted), "{line}");
+        let run = RunJob { trace, ..PLAIN };
+        expect(&rt, rt.alloc(), &[], line, Some(&Job::Run(run)));
     }
 }
 
 #[test]
-fn reads_the_jobs_of_the_debugger_and_demos(rt: HostRuntime) {
+fn reads_sessions_of_the_debugger(rt: HostRuntime) {
     let none: Option<&str> = None;
-    for (line, commands, chip, script) in [
+    for &(line, commands, chip, script) in &[
         ("debug a.bin 10 c.txt --boot raw", "c.txt", none, none),
         (
             "debug --chip c.toml --boot=raw a.bin --script=s.txt 10 ",
@@ -242,14 +214,19 @@ fn reads_the_jobs_of_the_debugger_and_demos(rt: HostRuntime) {
             none,
         ),
     ] {
-        let wanted = Wanted {
+        let run = RunJob {
             chip,
             script,
-            ..plain("a.bin", 10)
+            ..PLAIN
         };
-        assert!(&rt; debugs(rt.alloc(), line, &wanted, commands), "{line}");
+        let job = Job::Debug(DebugJob { run, commands });
+        expect(&rt, rt.alloc(), &[], line, Some(&job));
     }
-    for (line, number, groups) in [
+}
+
+#[test]
+fn reads_demos(rt: HostRuntime) {
+    for &(line, number, groups) in &[
         ("demo 1", 1, [0, 0, 0, 0, 0, 0, 0, 0]),
         ("demo 007", 7, [0, 0, 0, 0, 0, 0, 0, 0]),
         ("demo --groups each 0", 0, [0, 1, 2, 3, 4, 5, 6, 7]),
@@ -259,13 +236,15 @@ fn reads_the_jobs_of_the_debugger_and_demos(rt: HostRuntime) {
             [0, 1, 2, 3, 4, 5, 6, 7],
         ),
     ] {
-        assert!(&rt; demos(rt.alloc(), line, number, groups), "{line}");
+        let groups = Groups { of: groups };
+        let job = Job::Demo(DemoJob { number, groups });
+        expect(&rt, rt.alloc(), &[], line, Some(&job));
     }
 }
 
 #[test]
-fn reads_the_jobs_of_images(rt: HostRuntime) {
-    for (line, payload, out, chip) in [
+fn reads_what_images_are_made(rt: HostRuntime) {
+    for &(line, payload, out, chip) in &[
         ("image p.bin p.img", "p.bin", "p.img", None),
         ("image p.bin p.bin", "p.bin", "p.bin", None),
         ("image --chip=c.toml - ", "-", "", Some("c.toml")),
@@ -276,20 +255,26 @@ fn reads_the_jobs_of_images(rt: HostRuntime) {
             Some("c.toml"),
         ),
     ] {
-        assert!(&rt; makes(rt.alloc(), line, payload, out, chip), "{line}");
+        let job = Job::Image(ImageJob { payload, out, chip });
+        expect(&rt, rt.alloc(), &[], line, Some(&job));
     }
-    for (line, image, chip) in [
+}
+
+#[test]
+fn reads_which_images_are_checked(rt: HostRuntime) {
+    for &(line, image, chip) in &[
         ("check p.img", "p.img", None),
         ("check --chip c.toml p.img", "p.img", Some("c.toml")),
         ("check p.img --chip=", "p.img", Some("")),
     ] {
-        assert!(&rt; checks(rt.alloc(), line, image, chip), "{line}");
+        let job = Job::Check(CheckJob { image, chip });
+        expect(&rt, rt.alloc(), &[], line, Some(&job));
     }
 }
 
 #[test]
 fn refuses_other_words(rt: HostRuntime) {
-    for line in [
+    for &line in &[
         "",
         "run",
         "run a.bin --boot raw",
@@ -364,44 +349,52 @@ fn refuses_other_words(rt: HostRuntime) {
         "demo 1 --trace 1",
         "demo 1 --groups=",
     ] {
-        assert!(&rt; is_line_refused(rt.alloc(), &[], line), "{line}");
+        expect(&rt, rt.alloc(), &[], line, None);
     }
-    assert!(&rt; is_refused(rt.alloc(), &[], &[]));
+}
+
+#[test]
+fn refuses_a_part_that_was_not_handed_in(rt: HostRuntime) {
+    expect(
+        &rt,
+        rt.alloc(),
+        &[],
+        "run a.bin 10 --boot raw --part loop",
+        None,
+    );
+}
+
+#[test]
+fn refuses_no_words(rt: HostRuntime) {
+    assert!(&rt; gives(rt.alloc(), &[], &[], None));
 }
 
 /// Hands in one part more.
-fn hand_in(parts: &mut Vec<NamedPart>, name: &str, part: Box<dyn Part + Send>) -> Result<(), Fail> {
+fn hand_in(
+    parts: &mut Vec<NamedPart>,
+    name: &str,
+    part: Box<dyn Part + Send>,
+) -> Result<(), AllocError> {
     if let Some(name) = Name::new(name) {
         parts.push(NamedPart { name, part })?;
     }
     Ok(())
 }
 
-/// Two of the parts have one name.
-#[test]
-fn reads_the_name_of_a_part(rt: HostRuntime) -> Result<(), Fail> {
-    let alloc = rt.alloc();
-    let mut parts = Vec::new(alloc);
-    hand_in(&mut parts, "loop", Box::new(alloc, Loop::new())?)?;
-    hand_in(
-        &mut parts,
-        "a part of mine",
-        Box::new(alloc, Counter::new())?,
-    )?;
-    hand_in(&mut parts, "loop", Box::new(alloc, Scramble::new())?)?;
-    for (line, part) in [
+fn reads_names(rt: &impl Abort, alloc: Global, parts: &[NamedPart]) {
+    for &(line, part) in &[
         ("run a.bin 10 --boot raw", None),
         ("run a.bin 10 --boot raw --part loop", Some("loop")),
         ("run a.bin --part=loop 10 --boot raw", Some("loop")),
         ("run --part loop --boot raw -- a.bin 10", Some("loop")),
     ] {
-        let wanted = Wanted {
-            part,
-            ..plain("a.bin", 10)
-        };
-        assert!(&rt; gives(alloc, &parts, line, &wanted), "{line}");
+        let run = RunJob { part, ..PLAIN };
+        expect(rt, alloc, parts, line, Some(&Job::Run(run)));
     }
-    for line in [
+}
+
+fn refuses_names(rt: &impl Abort, alloc: Global, parts: &[NamedPart]) {
+    for &line in &[
         "run a.bin 10 --boot raw --part lop",
         "run a.bin 10 --boot raw --part Loop",
         "run a.bin 10 --boot raw --part scramble",
@@ -413,8 +406,23 @@ fn reads_the_name_of_a_part(rt: HostRuntime) -> Result<(), Fail> {
         "image a.bin b.bin --part loop",
         "check a.bin --part loop",
     ] {
-        assert!(&rt; is_line_refused(alloc, &parts, line), "{line}");
+        expect(rt, alloc, parts, line, None);
     }
-    assert!(&rt; is_line_refused(alloc, &[], "run a.bin 10 --boot raw --part loop"));
+}
+
+/// Two of the parts have one name.
+#[test]
+fn reads_the_name_of_a_part(rt: HostRuntime) -> Result<(), AllocError> {
+    let alloc = rt.alloc();
+    let mut parts = Vec::new(alloc);
+    hand_in(&mut parts, "loop", Box::new(alloc, Loop::new())?)?;
+    hand_in(
+        &mut parts,
+        "a part of mine",
+        Box::new(alloc, Counter::new())?,
+    )?;
+    hand_in(&mut parts, "loop", Box::new(alloc, Scramble::new())?)?;
+    reads_names(&rt, alloc, &parts);
+    refuses_names(&rt, alloc, &parts);
     Ok(())
 }
