@@ -3,11 +3,10 @@ ghost use Rattle.std.specs.Prelude.{◌+◌, ◌%◌, ◌^◌};
 ghost use Rattle.bench_parts.specs.Behave.{no_reply, word_reply};
 ghost use Rattle.bench_parts.specs.Parts.{each_event};
 
-use crate::given::{add_file, words_of};
-use crate::top::bench;
+use crate::given::{answers_with, shelf_of, sink_of, words_of};
 use crate::{bench_with_parts, hand_in};
 use bench_parts::{Loop, NamedPart, Part, PartEvent, PartReply};
-use bench_shelf::{MemShelf, MemSink};
+use bench_shelf::MemShelf;
 use std::alloc::{AllocError, Global};
 use std::thread::Threads;
 
@@ -18,27 +17,32 @@ const PASS_ONE: &[u8] = &[
     0x33, 0x02, 0x21, 0x02, 0x83, 0xa1, 0x40, 0x00, 0x6f, 0x00, 0x00, 0x00,
 ];
 
-/// The report of 60 cycles, with this line of x3.
-fn report(alloc: Global, reply: &str) -> Result<String, AllocError> {
-    format!(in alloc;
-        "cycles 60
+/// The lines of the report of 60 cycles before that of x3.
+const HEAD: &str = "cycles 60
 17 slink last 00000001
 boot raw
 hart 0 run pc 00000018 retired 7
 x1 ffec0000
 x2 00000001
-{reply}x4 00000001
+";
+
+/// The lines after it.
+const TAIL: &str = "x4 00000001
 mem 00000000 b700ecff1301100023a0200023a42000
 mem 00000010 3302210283a140006f00000000000000
 end
-"
-    )
+";
+
+/// The report of 60 cycles, with this line of x3.
+fn report(alloc: Global, reply: &str) -> Result<String, AllocError> {
+    let mut text = String::from_str(alloc, HEAD)?;
+    text.push_str(reply)?;
+    text.push_str(TAIL)?;
+    Ok(text)
 }
 
-fn shelf_of(alloc: Global) -> Result<MemShelf, AllocError> {
-    let mut files = Vec::new(alloc);
-    add_file(alloc, &mut files, "prog.bin", PASS_ONE)?;
-    Ok(MemShelf::new(alloc, files, Vec::new(alloc), Vec::new(alloc)))
+fn program_shelf(alloc: Global) -> Result<MemShelf, AllocError> {
+    shelf_of(alloc, &[("prog.bin", PASS_ONE)], 0, 0)
 }
 
 /// Whether a call with the three parts answers with this status and text.
@@ -50,10 +54,21 @@ fn answers<R: Threads + Sync>(
     text: &str,
 ) -> Result<bool, AllocError> {
     let words = words_of(alloc, words)?;
-    let mut shelf = shelf_of(alloc)?;
-    let mut out = MemSink::new(alloc, Vec::new(alloc));
+    let mut shelf = program_shelf(alloc)?;
+    let mut out = sink_of(alloc, 0)?;
     let answer = bench_with_parts(rt, alloc, &words, &mut shelf, &mut out)?;
     Ok(answer == status && out.bytes() == text.as_bytes())
+}
+
+/// Whether a run with the three parts shows this line of x3.
+fn replies<R: Threads + Sync>(
+    rt: &R,
+    alloc: Global,
+    words: &str,
+    reply: &str,
+) -> Result<bool, AllocError> {
+    let text = report(alloc, reply)?;
+    answers(rt, alloc, words, 0, text.as_str())
 }
 
 /// Whether a run with these parts, of which one is named `mine`, shows this line of x3.
@@ -63,36 +78,41 @@ fn shows<R: Threads + Sync>(
     parts: Vec<NamedPart>,
     reply: &str,
 ) -> Result<bool, AllocError> {
-    let words = words_of(alloc, "run prog.bin 60 --boot raw --part mine")?;
     let text = report(alloc, reply)?;
-    let mut shelf = shelf_of(alloc)?;
-    let mut out = MemSink::new(alloc, Vec::new(alloc));
-    let answer = bench(rt, alloc, &words, &mut shelf, &mut out, parts);
-    Ok(answer == 0 && out.bytes() == text.as_bytes())
+    let mut shelf = program_shelf(alloc)?;
+    let words = "run prog.bin 60 --boot raw --part mine";
+    answers_with(rt, alloc, words, &mut shelf, parts, 0, 0, text.as_str())
 }
+
+/// Words, and the line of x3.
+const PARTS: &[(&str, &str)] = &[
+    ("run prog.bin 60 --boot raw", ""),
+    ("run prog.bin 60 --boot raw --part loop", "x3 00000001\n"),
+    ("run prog.bin 60 --part=counter --boot raw", "x3 00000001\n"),
+    (
+        "run --part scramble prog.bin 60 --boot raw",
+        "x3 5a5a5ada\n",
+    ),
+];
 
 #[test]
 fn attaches_the_three_parts(rt: HostRuntime) -> Result<(), AllocError> {
-    for (words, reply) in [
-        ("run prog.bin 60 --boot raw", ""),
-        ("run prog.bin 60 --boot raw --part loop", "x3 00000001\n"),
-        ("run prog.bin 60 --part=counter --boot raw", "x3 00000001\n"),
-        (
-            "run --part scramble prog.bin 60 --boot raw",
-            "x3 5a5a5ada\n",
-        ),
-    ] {
-        let text = report(rt.alloc(), reply)?;
-        assert!(&rt;
-            answers(&rt, rt.alloc(), words, 0, text.as_str())?,
-            "{words}"
-        );
+    for &(words, reply) in PARTS {
+        assert!(&rt; replies(&rt, rt.alloc(), words, reply)?, "{words}");
     }
-    for words in [
-        "run prog.bin 60 --boot raw --part lop",
-        "run prog.bin 60 --boot raw --part=",
-        "run prog.bin 60 --boot raw --part loop --part loop",
-    ] {
+    Ok(())
+}
+
+/// Words that give no job.
+const NO_PARTS: &[&str] = &[
+    "run prog.bin 60 --boot raw --part lop",
+    "run prog.bin 60 --boot raw --part=",
+    "run prog.bin 60 --boot raw --part loop --part loop",
+];
+
+#[test]
+fn refuses_other_parts(rt: HostRuntime) -> Result<(), AllocError> {
+    for words in NO_PARTS {
         assert!(&rt;
             answers(&rt, rt.alloc(), words, 2, "error usage\n")?,
             "{words}"
@@ -133,21 +153,33 @@ impl Part for OneMore {
     }
 }
 
+/// Whether a run with two parts, the first of this name and the second named `mine`, shows this line of x3.
+fn shows_of_two<R: Threads + Sync>(
+    rt: &R,
+    alloc: Global,
+    name: &str,
+    first: Box<dyn Part + Send>,
+    second: Box<dyn Part + Send>,
+    reply: &str,
+) -> Result<bool, AllocError> {
+    let mut parts = Vec::new(alloc);
+    hand_in(&mut parts, name, first)?;
+    hand_in(&mut parts, "mine", second)?;
+    shows(rt, alloc, parts, reply)
+}
+
 /// Of two parts of one name the first is taken.
 #[test]
 fn attaches_other_parts(rt: HostRuntime) -> Result<(), AllocError> {
     let alloc = rt.alloc();
-    let mut parts = Vec::new(alloc);
-    hand_in(&mut parts, "loop", Box::new(alloc, Loop::new())?)?;
-    hand_in(&mut parts, "mine", Box::new(alloc, OneMore)?)?;
-    assert!(&rt; shows(&rt, alloc, parts, "x3 00000002\n")?);
-    let mut parts = Vec::new(alloc);
-    hand_in(&mut parts, "mine", Box::new(alloc, Mute)?)?;
-    hand_in(&mut parts, "mine", Box::new(alloc, OneMore)?)?;
-    assert!(&rt; shows(&rt, alloc, parts, "")?);
-    let mut parts = Vec::new(alloc);
-    hand_in(&mut parts, "mine", Box::new(alloc, OneMore)?)?;
-    hand_in(&mut parts, "mine", Box::new(alloc, Mute)?)?;
-    assert!(&rt; shows(&rt, alloc, parts, "x3 00000002\n")?);
+    let first = Box::new(alloc, Loop::new())?;
+    let second = Box::new(alloc, OneMore)?;
+    assert!(&rt; shows_of_two(&rt, alloc, "loop", first, second, "x3 00000002\n")?);
+    let first = Box::new(alloc, Mute)?;
+    let second = Box::new(alloc, OneMore)?;
+    assert!(&rt; shows_of_two(&rt, alloc, "mine", first, second, "")?);
+    let first = Box::new(alloc, OneMore)?;
+    let second = Box::new(alloc, Mute)?;
+    assert!(&rt; shows_of_two(&rt, alloc, "mine", first, second, "x3 00000002\n")?);
     Ok(())
 }

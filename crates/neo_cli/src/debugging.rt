@@ -1,10 +1,8 @@
 //! Sessions of the debugger: programs, command files, and the texts that they give.
 
-use crate::given::{add_file, words_of};
+use crate::given::{answers, shelf_of};
 use crate::programs::{COPY_TWO, LIGHT, PARCELS};
 use crate::tests::bytes_of;
-use crate::top::bench;
-use bench_shelf::{MemShelf, MemSink};
 use std::alloc::{AllocError, Global};
 use std::thread::Threads;
 
@@ -259,8 +257,23 @@ at 100
 end
 ";
 
+/// Whether a session over these bytes of a program and these commands answers with this status and text.
+fn debugs_bytes<'a, R: Threads + Sync>(
+    rt: &R,
+    alloc: Global,
+    words: &str,
+    program: &'a [u8],
+    commands: &'a str,
+    status: u8,
+    text: &str,
+) -> Result<bool, AllocError> {
+    let files = [("prog.bin", program), ("d.txt", commands.as_bytes())];
+    let mut shelf = shelf_of(alloc, &files, 0, 0)?;
+    answers(rt, alloc, words, &mut shelf, 0, status, text)
+}
+
 /// Whether a session over this program and these commands answers with this status and text.
-fn answers<R: Threads + Sync>(
+fn debugs<R: Threads + Sync>(
     rt: &R,
     alloc: Global,
     words: &str,
@@ -269,118 +282,118 @@ fn answers<R: Threads + Sync>(
     status: u8,
     text: &str,
 ) -> Result<bool, AllocError> {
-    let words = words_of(alloc, words)?;
-    let mut files = Vec::new(alloc);
-    add_file(alloc, &mut files, "prog.bin", &bytes_of(alloc, program)?)?;
-    add_file(alloc, &mut files, "d.txt", commands.as_bytes())?;
-    let mut shelf = MemShelf::new(alloc, files, Vec::new(alloc), Vec::new(alloc));
-    let mut out = MemSink::new(alloc, Vec::new(alloc));
-    let answer = bench(rt, alloc, &words, &mut shelf, &mut out, Vec::new(alloc));
-    Ok(answer == status && out.bytes() == text.as_bytes())
+    let program = bytes_of(alloc, program)?;
+    debugs_bytes(rt, alloc, words, &program, commands, status, text)
 }
+
+/// Words, a program, the commands and the text.
+const SESSIONS: &[(&str, &[u32], &str, &str)] = &[
+    (
+        "debug prog.bin 100 d.txt --boot raw --groups each",
+        LIGHT,
+        LIGHT_COMMANDS,
+        LIGHT_TEXT,
+    ),
+    (
+        "debug prog.bin 100 d.txt --boot raw --groups all",
+        LIGHT,
+        LIGHT_COMMANDS,
+        LIGHT_TEXT,
+    ),
+    (
+        "debug prog.bin 20 d.txt --boot raw",
+        PARCELS,
+        PARCEL_COMMANDS,
+        PARCEL_TEXT,
+    ),
+    (
+        "debug prog.bin 60 d.txt --boot raw",
+        JUMP_TOGETHER,
+        TOGETHER_COMMANDS,
+        TOGETHER_TEXT,
+    ),
+    (
+        "debug prog.bin 40 d.txt --boot raw",
+        STORE_TOGETHER,
+        STORED_COMMANDS,
+        STORED_TEXT,
+    ),
+    (
+        "debug prog.bin 40 d.txt --boot raw",
+        STORE_TOGETHER,
+        BOTH_HOLD_COMMANDS,
+        BOTH_HOLD_TEXT,
+    ),
+    (
+        "debug prog.bin 100 d.txt --boot raw",
+        STORE_NARROW,
+        NARROW_COMMANDS,
+        NARROW_TEXT,
+    ),
+    (
+        "debug prog.bin 60 d.txt --boot raw",
+        COPY_TWO,
+        COPY_COMMANDS,
+        COPY_TEXT,
+    ),
+    (
+        "debug prog.bin 60 d.txt --boot raw",
+        STORE_ABOVE,
+        ABOVE_COMMANDS,
+        ABOVE_TEXT,
+    ),
+    (
+        "debug prog.bin 60 d.txt --boot raw",
+        STORE_WRAPPING,
+        WRAPPED_COMMANDS,
+        WRAPPED_TEXT,
+    ),
+    (
+        "debug prog.bin 60 d.txt --boot raw",
+        STORE_WRAPPING,
+        WRAPPING_COMMANDS,
+        WRAPPING_TEXT,
+    ),
+    (
+        "debug prog.bin 100 d.txt --boot raw",
+        LIGHT,
+        BOUND_COMMANDS,
+        BOUND_TEXT,
+    ),
+    (
+        "debug prog.bin 0 d.txt --boot raw",
+        LIGHT,
+        "cont",
+        "stop 0 bound\nend\n",
+    ),
+    ("debug prog.bin 10 d.txt --boot raw", LIGHT, "", "end\n"),
+];
 
 #[test]
 fn stops_and_tells(rt: HostRuntime) -> Result<(), AllocError> {
-    for (words, program, commands, text) in [
-        (
-            "debug prog.bin 100 d.txt --boot raw --groups each",
-            LIGHT,
-            LIGHT_COMMANDS,
-            LIGHT_TEXT,
-        ),
-        (
-            "debug prog.bin 100 d.txt --boot raw --groups all",
-            LIGHT,
-            LIGHT_COMMANDS,
-            LIGHT_TEXT,
-        ),
-        (
-            "debug prog.bin 20 d.txt --boot raw",
-            PARCELS,
-            PARCEL_COMMANDS,
-            PARCEL_TEXT,
-        ),
-        (
-            "debug prog.bin 60 d.txt --boot raw",
-            JUMP_TOGETHER,
-            TOGETHER_COMMANDS,
-            TOGETHER_TEXT,
-        ),
-        (
-            "debug prog.bin 40 d.txt --boot raw",
-            STORE_TOGETHER,
-            STORED_COMMANDS,
-            STORED_TEXT,
-        ),
-        (
-            "debug prog.bin 40 d.txt --boot raw",
-            STORE_TOGETHER,
-            BOTH_HOLD_COMMANDS,
-            BOTH_HOLD_TEXT,
-        ),
-        (
-            "debug prog.bin 100 d.txt --boot raw",
-            STORE_NARROW,
-            NARROW_COMMANDS,
-            NARROW_TEXT,
-        ),
-        (
-            "debug prog.bin 60 d.txt --boot raw",
-            COPY_TWO,
-            COPY_COMMANDS,
-            COPY_TEXT,
-        ),
-        (
-            "debug prog.bin 60 d.txt --boot raw",
-            STORE_ABOVE,
-            ABOVE_COMMANDS,
-            ABOVE_TEXT,
-        ),
-        (
-            "debug prog.bin 60 d.txt --boot raw",
-            STORE_WRAPPING,
-            WRAPPED_COMMANDS,
-            WRAPPED_TEXT,
-        ),
-        (
-            "debug prog.bin 60 d.txt --boot raw",
-            STORE_WRAPPING,
-            WRAPPING_COMMANDS,
-            WRAPPING_TEXT,
-        ),
-        (
-            "debug prog.bin 100 d.txt --boot raw",
-            LIGHT,
-            BOUND_COMMANDS,
-            BOUND_TEXT,
-        ),
-        (
-            "debug prog.bin 0 d.txt --boot raw",
-            LIGHT,
-            "cont",
-            "stop 0 bound\nend\n",
-        ),
-        ("debug prog.bin 10 d.txt --boot raw", LIGHT, "", "end\n"),
-    ] {
+    for &(words, program, commands, text) in SESSIONS {
         assert!(&rt;
-            answers(&rt, rt.alloc(), words, program, commands, 0, text)?,
+            debugs(&rt, rt.alloc(), words, program, commands, 0, text)?,
             "{words} {commands}"
         );
     }
     Ok(())
 }
 
+/// Commands that are refused, and the text.
+const REFUSED: &[(&str, &str)] = &[
+    ("cont\njump 4\n", "error debug line 2\n"),
+    ("# watch 3\n\n watch 3", "error debug line 3\n"),
+    ("csr 0 1000\nregs 2\n", "error debug line 1\n"),
+    ("mem 0 65\n", "error debug line 1\n"),
+];
+
 /// The first faulty line of a command file.
 #[test]
 fn refuses_commands(rt: HostRuntime) -> Result<(), AllocError> {
-    for (commands, text) in [
-        ("cont\njump 4\n", "error debug line 2\n"),
-        ("# watch 3\n\n watch 3", "error debug line 3\n"),
-        ("csr 0 1000\nregs 2\n", "error debug line 1\n"),
-        ("mem 0 65\n", "error debug line 1\n"),
-    ] {
+    for &(commands, text) in REFUSED {
         assert!(&rt;
-            answers(
+            debugs(
                 &rt,
                 rt.alloc(),
                 "debug prog.bin 100 d.txt --boot raw",

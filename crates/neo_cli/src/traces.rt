@@ -1,11 +1,9 @@
 //! Runs whose reports tell their last issues.
 
 use crate::debugging::JUMP_TOGETHER;
-use crate::given::{add_file, words_of};
+use crate::given::{answers, shelf_of};
 use crate::programs::{EBREAK, EMPTY, PARCELS, SEND_A, STORE_FIVE, STORE_FIVE_RUN};
 use crate::tests::bytes_of;
-use crate::top::bench;
-use bench_shelf::{MemShelf, MemSink};
 use std::alloc::{AllocError, Global};
 use std::thread::Threads;
 
@@ -101,23 +99,26 @@ x1 000002ee
 mem 00000000 938010006ff0dfff0000000000000000
 ";
 
+/// Appends the lines of both instructions, issued in these cycles.
+fn push_turn(alloc: Global, text: &mut String, add: u32, jump: u32) -> Result<(), AllocError> {
+    let lines = format!(in alloc;
+        "trace {add} 0 00000000 00108093 addi x1, x1, 1\ntrace {jump} 0 00000004 ffdff06f jal x0, 00000000\n"
+    )?;
+    text.push_str(lines.as_str())
+}
+
 /// The report of 6,000 cycles with the last 1,000 issues, which begin with that of cycle 2000: both instructions are issued every eight cycles.
 fn counted(alloc: Global) -> Result<String, AllocError> {
     let mut text = String::from_str(alloc, COUNT_UP_HEAD)?;
     for turn in 250..750u32 {
-        let add = 8 * turn;
-        let jump = add + 2;
-        let lines = format!(in alloc;
-            "trace {add} 0 00000000 00108093 addi x1, x1, 1\ntrace {jump} 0 00000004 ffdff06f jal x0, 00000000\n"
-        )?;
-        text.push_str(lines.as_str())?;
+        push_turn(alloc, &mut text, 8 * turn, 8 * turn + 2)?;
     }
     text.push_str("end\n")?;
     Ok(text)
 }
 
 /// Whether a call over this program answers with this status and text.
-fn answers<R: Threads + Sync>(
+fn traces<R: Threads + Sync>(
     rt: &R,
     alloc: Global,
     words: &str,
@@ -125,53 +126,52 @@ fn answers<R: Threads + Sync>(
     status: u8,
     text: &str,
 ) -> Result<bool, AllocError> {
-    let words = words_of(alloc, words)?;
-    let mut files = Vec::new(alloc);
-    add_file(alloc, &mut files, "prog.bin", &bytes_of(alloc, program)?)?;
-    let mut shelf = MemShelf::new(alloc, files, Vec::new(alloc), Vec::new(alloc));
-    let mut out = MemSink::new(alloc, Vec::new(alloc));
-    let answer = bench(rt, alloc, &words, &mut shelf, &mut out, Vec::new(alloc));
-    Ok(answer == status && out.bytes() == text.as_bytes())
+    let program = bytes_of(alloc, program)?;
+    let mut shelf = shelf_of(alloc, &[("prog.bin", program.as_slice())], 0, 0)?;
+    answers(rt, alloc, words, &mut shelf, 0, status, text)
 }
+
+/// Words, a program and its report.
+const TRACES: &[(&str, &[u32], &str)] = &[
+    (
+        "run prog.bin 100 --boot raw --trace 2",
+        STORE_FIVE,
+        STORE_FIVE_TWO,
+    ),
+    (
+        "run --trace=0002 prog.bin 100 --boot raw --groups each",
+        STORE_FIVE,
+        STORE_FIVE_TWO,
+    ),
+    (
+        "run prog.bin 100 --boot raw --trace 0",
+        STORE_FIVE,
+        STORE_FIVE_RUN,
+    ),
+    (
+        "run prog.bin 20 --boot raw --trace 1000",
+        PARCELS,
+        PARCELS_ALL,
+    ),
+    (
+        "run prog.bin 36 --boot raw --trace 5",
+        JUMP_TOGETHER,
+        TOGETHER,
+    ),
+    ("run prog.bin 1 --boot raw --trace 9", EBREAK, EBREAK_ONE),
+    ("run prog.bin 12 --boot raw --trace 9", EMPTY, EMPTY_TWO),
+    (
+        "run prog.bin 5000 --boot raw --trace 3",
+        SEND_A,
+        SEND_A_THREE,
+    ),
+];
 
 #[test]
 fn tells_the_last_issues(rt: HostRuntime) -> Result<(), AllocError> {
-    for (words, program, text) in [
-        (
-            "run prog.bin 100 --boot raw --trace 2",
-            STORE_FIVE,
-            STORE_FIVE_TWO,
-        ),
-        (
-            "run --trace=0002 prog.bin 100 --boot raw --groups each",
-            STORE_FIVE,
-            STORE_FIVE_TWO,
-        ),
-        (
-            "run prog.bin 100 --boot raw --trace 0",
-            STORE_FIVE,
-            STORE_FIVE_RUN,
-        ),
-        (
-            "run prog.bin 20 --boot raw --trace 1000",
-            PARCELS,
-            PARCELS_ALL,
-        ),
-        (
-            "run prog.bin 36 --boot raw --trace 5",
-            JUMP_TOGETHER,
-            TOGETHER,
-        ),
-        ("run prog.bin 1 --boot raw --trace 9", EBREAK, EBREAK_ONE),
-        ("run prog.bin 12 --boot raw --trace 9", EMPTY, EMPTY_TWO),
-        (
-            "run prog.bin 5000 --boot raw --trace 3",
-            SEND_A,
-            SEND_A_THREE,
-        ),
-    ] {
+    for &(words, program, text) in TRACES {
         assert!(&rt;
-            answers(&rt, rt.alloc(), words, program, 0, text)?,
+            traces(&rt, rt.alloc(), words, program, 0, text)?,
             "{words}"
         );
     }
@@ -186,7 +186,7 @@ fn tells_a_thousand_of_more(rt: HostRuntime) -> Result<(), AllocError> {
         "run prog.bin 6000 --boot raw --trace 1000 --groups each",
     ] {
         assert!(&rt;
-            answers(&rt, rt.alloc(), words, COUNT_UP, 0, text.as_str())?,
+            traces(&rt, rt.alloc(), words, COUNT_UP, 0, text.as_str())?,
             "{words}"
         );
     }
@@ -194,21 +194,23 @@ fn tells_a_thousand_of_more(rt: HostRuntime) -> Result<(), AllocError> {
 }
 
 /// A number of issues in another form, twice, or with another command.
+const REFUSED_COUNTS: &[&str] = &[
+    "run prog.bin 4 --boot raw --trace 1001",
+    "run prog.bin 4 --boot raw --trace 00002",
+    "run prog.bin 4 --boot raw --trace=",
+    "run prog.bin 4 --boot raw --trace",
+    "run prog.bin 4 --boot raw --trace +1",
+    "run prog.bin 4 --boot raw --trace x",
+    "run prog.bin 4 --boot raw --trace 1 --trace 1",
+    "debug prog.bin 4 d.txt --boot raw --trace 1",
+    "demo 7 --trace 1",
+];
+
 #[test]
 fn refuses_counts(rt: HostRuntime) -> Result<(), AllocError> {
-    for words in [
-        "run prog.bin 4 --boot raw --trace 1001",
-        "run prog.bin 4 --boot raw --trace 00002",
-        "run prog.bin 4 --boot raw --trace=",
-        "run prog.bin 4 --boot raw --trace",
-        "run prog.bin 4 --boot raw --trace +1",
-        "run prog.bin 4 --boot raw --trace x",
-        "run prog.bin 4 --boot raw --trace 1 --trace 1",
-        "debug prog.bin 4 d.txt --boot raw --trace 1",
-        "demo 7 --trace 1",
-    ] {
+    for words in REFUSED_COUNTS {
         assert!(&rt;
-            answers(&rt, rt.alloc(), words, STORE_FIVE, 2, "error usage\n")?,
+            traces(&rt, rt.alloc(), words, STORE_FIVE, 2, "error usage\n")?,
             "{words}"
         );
     }
