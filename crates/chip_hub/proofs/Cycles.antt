@@ -1,15 +1,19 @@
 -- The steps of a cycle, as the code of a hub makes them.
-use Rattle.std.proofs.Common.{◌≡◌, ℕ, List, Option, Some, refl, subst, sym, ap}
+use Rattle.std.proofs.Common.{◌≡◌, ℕ, List, Option, Some, None, refl, subst, sym, ap, ◌∙◌}
 use Rattle.chip_base.specs.declared.boot.Boot.{Boot}
 use Rattle.chip_base.specs.declared.message.Down.{Down}
 use Rattle.chip_base.specs.declared.message.Up.{Up}
 use Rattle.core_pair.specs.Core.{wanted_in}
 use Rattle.core_pair.specs.declared.phase.Phase.TheVariants.{Want}
+use Rattle.soc_bus.specs.Rotation.{ArbiterState, after_grant, granted}
 use Rattle.soc_bus.specs.declared.access.Request.{Request}
+use Rattle.soc_bus.specs.declared.arbiter.Master.{Master}
+use Rattle.soc_bus.specs.declared.arbiter.Master.TheVariants.{Core0, Core1, Dma}
 use Rattle.dma_unit.specs.DmaRegisters.{dma_wanted}
 use Rattle.chip_hub.specs.Access.{accessed}
-use Rattle.chip_hub.specs.Cycle.{answered_core0, answered_core1, answered_dma, arrived, closed, hub_worked, reset_by, seat_after, served, served_core0, served_core1, served_dma, timed, turn0, turn1, wanted0, wants_of}
+use Rattle.chip_hub.specs.Cycle.{answered_core0, answered_core1, answered_dma, arrived, closed, hub_worked, reset_by, seat_after, served, served_core0, served_core1, served_dma, served_to, timed, turn0, turn1, wanted0, wants_of}
 use Rattle.chip_hub.specs.Kept.{HubKept, SeatStands, StepStands}
+use Rattle.chip_hub.specs.Observed.{stored_by, wanted_of}
 use Rattle.chip_hub.specs.Seat.{Seat, seat_reset}
 use Rattle.chip_hub.specs.Start.{hub_reset}
 use Rattle.chip_hub.specs.State.{HubState, HubStep}
@@ -42,6 +46,30 @@ pub dma_served : (s : HubState) (kept : HubKept) (seat : Seat) (request : Reques
     → StepStands kept sent (served_dma s seat (dma_wanted s.dma))
 dma_served s kept seat request sent e step h =
     subst (λ wanted. StepStands kept sent (served_dma s seat wanted)) (sym e) (stands_after kept seat sent (answered_dma (accessed s request) seat) step h)
+
+-- what a master wants of the bus doesn't rest on the arbiter
+wanted_still : (s : HubState) (seat : Seat) (master : Option Master) (arbiter : ArbiterState)
+    → wanted_of (record s { arbiter = arbiter }) seat master ≡ wanted_of s seat master
+wanted_still s seat None arbiter = refl
+wanted_still s seat (Some Core0) arbiter = refl
+wanted_still s seat (Some Core1) arbiter = refl
+wanted_still s seat (Some Dma) arbiter = refl
+
+-- the access of the master that the bus is granted to
+pub grant_served : (s next : HubState) (kept : HubKept) (seat : Seat) (wants : ℕ) (master : Option Master) (sent : List (Option Down))
+    → master ≡ granted s.arbiter wants → next ≡ record s { arbiter = after_grant s.arbiter wants }
+    → StepStands kept sent (served_to next seat master) → StepStands kept sent (served s seat wants)
+grant_served s next kept seat wants master sent g n step =
+    subst (λ master. StepStands kept sent (served_to (record s { arbiter = after_grant s.arbiter wants }) seat master)) g
+    (subst (λ (next : HubState). StepStands kept sent (served_to next seat master)) n step)
+
+-- its store
+pub grant_stored : (s next : HubState) (seat : Seat) (wants : ℕ) (master : Option Master) (stored : Option (ℕ × ℕ))
+    → master ≡ granted s.arbiter wants → next ≡ record s { arbiter = after_grant s.arbiter wants }
+    → stored ≡ stored_by (wanted_of next seat master) → stored ≡ stored_by (wanted_of s seat (granted s.arbiter wants))
+grant_stored s next seat wants master stored g n e =
+    subst (λ master. stored ≡ stored_by (wanted_of s seat master)) g
+    (e ∙ ap stored_by (ap (λ (next : HubState). wanted_of next seat master) n ∙ wanted_still s seat master (after_grant s.arbiter wants)))
 
 -- all six steps of a cycle without a Fire
 pub cycle_stands : (s at_time after_core0 after_core1 : HubState) (seat : Seat) (now wants : ℕ) (ups : List (Option Up)) (kept : HubKept) (sent : List (Option Down))

@@ -7,7 +7,6 @@ use std::marker::Model;
 use unit_fronts::{GpioFront, PwmFront, SlinkFront, SpiFront, UartFront, WdtFront};
 
 /// Two cores, the DMA, the memories, the bus and the fronts of the units: the hub without what sits in core 0's seat.
-#[derive(Drop)]
 pub(crate) struct CoreComplex {
     pub(crate) clock: u32,
     pub(crate) core0: Core,
@@ -24,6 +23,28 @@ pub(crate) struct CoreComplex {
     pub(crate) pwm: PwmFront,
     pub(crate) slink: SlinkFront,
     pub(crate) wdt: WdtFront,
+}
+
+impl Drop for CoreComplex {
+    fn drop(self) {
+        let CoreComplex {
+            clock: _,
+            core0: _,
+            core1: _,
+            memory: _,
+            arbiter: _,
+            dma: _,
+            clint: _,
+            mailbox: _,
+            uart0: _,
+            uart1: _,
+            spi: _,
+            gpio: _,
+            pwm: _,
+            slink: _,
+            wdt: _,
+        } = self;
+    }
 }
 
 impl Model for CoreComplex {

@@ -1,7 +1,7 @@
 //! One cycle of the hub.
 ghost use Rattle.std.specs.Prelude.{◌≡◌, ◌<◌, ◌≤◌, ◌++◌, ℕ, List, Some, None, false, true};
 ghost use Rattle.chip_base.specs.declared.hart.IssueRecord.{IssueRecord as Record};
-ghost use Rattle.chip_hub.specs.Cycle.{fires, hub_cycle, hub_worked, reset_by, seat_after, served, served_core0, served_core1, served_dma, turn0, wanted0, wants_of};
+ghost use Rattle.chip_hub.specs.Cycle.{fires, hub_cycle, hub_worked, reset_by, seat_after, served, served_core0, served_core1, served_dma, served_to, turn0, wanted0, wants_of};
 ghost use Rattle.chip_hub.specs.Kept.{IssuesStand, SeatStands, StepStands};
 ghost use Rattle.chip_hub.specs.Lines.{mip_of};
 ghost use Rattle.chip_hub.specs.Observed.{hub_issues, hub_stored, stored_by, wanted_of, worked_issues, worked_stored};
@@ -157,6 +157,23 @@ impl Hub {
         self.complex.serve2(&request)
     }
 
+    /// The master that the bus is granted to makes its access.
+    #[inline(always)]
+    fn serve_master(&mut self, master: Option<Master>) -> [Option<Down>; 7]
+        requires { self.old.stored ≡ None }
+        ensures step { (seat : Seat) → SeatStands self.old.seat seat → StepStands self.new result (served_to self.old.hub seat master) }
+        ensures stored { (seat : Seat) → SeatStands self.old.seat seat → self.new.stored ≡ stored_by (wanted_of self.old.hub seat master) }
+        ensures issues { self.new.issues ≡ self.old.issues }
+        ensures messages { messages_in result ≤ 1 }
+    {
+        match master {
+            Some(Master::Core0) => self.serve0(),
+            Some(Master::Core1) => self.serve1(),
+            Some(Master::Dma) => self.serve2(),
+            None => SILENT,
+        }
+    }
+
     /// One of the masters that want the bus, by these bits, is granted its access.
     fn serve(&mut self, wants: u8) -> [Option<Down>; 7]
         requires { wants < 8 }
@@ -167,12 +184,8 @@ impl Hub {
         ensures messages { messages_in result ≤ 1 }
     {
         self.stored = None;
-        match self.complex.arbiter.grant(wants) {
-            Some(Master::Core0) => self.serve0(),
-            Some(Master::Core1) => self.serve1(),
-            Some(Master::Dma) => self.serve2(),
-            None => SILENT,
-        }
+        let master = self.complex.grant(wants);
+        self.serve_master(master)
     }
 
     /// A cycle without a Fire: the arrivals by unit, the time, core 0's turn or the monitor's, core 1's turn, who wants the bus, and one

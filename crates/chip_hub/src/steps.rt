@@ -1,10 +1,11 @@
 //! What the core complex does in the steps of a cycle.
 ghost use Rattle.std.specs.Prelude.{◌≡◌, ◌<◌, ◌≤◌, ◌+◌, ◌^◌, Some};
 ghost use Rattle.chip_hub.specs.Access.{accessed};
-ghost use Rattle.chip_hub.specs.Cycle.{answered_core0, answered_core1, answered_dma, arrived, closed, timed, turn1};
+ghost use Rattle.chip_hub.specs.Cycle.{answered_core0, answered_core1, answered_dma, arrived, arrived_at, arrived_at_gpio, arrived_at_pwm, arrived_at_watchdog, closed, timed, turn1};
 ghost use Rattle.core_pair.specs.Core.{wanted_in};
 ghost use Rattle.core_pair.specs.Turn.{turned};
 ghost use Rattle.dma_unit.specs.DmaRegisters.{dma_wanted};
+ghost use Rattle.soc_bus.specs.Rotation.{after_grant, granted};
 ghost use Rattle.chip_hub.specs.Lines.{fast_lines, mip_of};
 ghost use Rattle.chip_hub.specs.Seat.{Seat};
 ghost use Rattle.chip_hub.specs.Units.{messages_in};
@@ -13,7 +14,63 @@ use crate::complex::CoreComplex;
 use chip_base::chip_unit::fast_bit;
 use chip_base::{ChipUnit, Cycle, Down, HubPart, IssueRecord, Up};
 use core_pair::Phase;
-use soc_bus::Request;
+use soc_bus::{Master, Request};
+use unit_fronts::{GpioFront, PwmFront, SlinkFront, SpiFront, UartFront, WdtFront};
+
+/// A message from a UART reaches its front, where there is one. The other units' functions do the same.
+#[inline(always)]
+fn hear_uart(front: &mut UartFront, arrival: Option<Up>)
+    ensures { front.new ≡ arrived_at front.old arrival }
+{
+    if let Some(up) = arrival {
+        front.arrive(up);
+    }
+}
+
+#[inline(always)]
+fn hear_spi(front: &mut SpiFront, arrival: Option<Up>)
+    ensures { front.new ≡ arrived_at front.old arrival }
+{
+    if let Some(up) = arrival {
+        front.arrive(up);
+    }
+}
+
+#[inline(always)]
+fn hear_gpio(front: &mut GpioFront, arrival: Option<Up>)
+    ensures { front.new ≡ arrived_at_gpio front.old arrival }
+{
+    if let Some(up) = arrival {
+        front.arrive(up);
+    }
+}
+
+#[inline(always)]
+fn hear_pwm(front: &mut PwmFront, arrival: Option<Up>)
+    ensures { front.new ≡ arrived_at_pwm front.old arrival }
+{
+    if let Some(up) = arrival {
+        front.arrive(up);
+    }
+}
+
+#[inline(always)]
+fn hear_slink(front: &mut SlinkFront, arrival: Option<Up>)
+    ensures { front.new ≡ arrived_at front.old arrival }
+{
+    if let Some(up) = arrival {
+        front.arrive(up);
+    }
+}
+
+#[inline(always)]
+fn hear_watchdog(front: &mut WdtFront, arrival: Option<Up>)
+    ensures { front.new ≡ arrived_at_watchdog front.old arrival }
+{
+    if let Some(up) = arrival {
+        front.arrive(up);
+    }
+}
 
 impl CoreComplex {
     /// What arrives from the units reaches their fronts.
@@ -21,27 +78,13 @@ impl CoreComplex {
     pub(crate) fn hear(&mut self, ups: &[Option<Up>; 7])
         ensures { self.new ≡ arrived self.old ups.now }
     {
-        if let Some(up) = ups[ChipUnit::Uart0.place()] {
-            self.uart0.arrive(up);
-        }
-        if let Some(up) = ups[ChipUnit::Uart1.place()] {
-            self.uart1.arrive(up);
-        }
-        if let Some(up) = ups[ChipUnit::Spi.place()] {
-            self.spi.arrive(up);
-        }
-        if let Some(up) = ups[ChipUnit::Gpio.place()] {
-            self.gpio.arrive(up);
-        }
-        if let Some(up) = ups[ChipUnit::Pwm.place()] {
-            self.pwm.arrive(up);
-        }
-        if let Some(up) = ups[ChipUnit::Slink.place()] {
-            self.slink.arrive(up);
-        }
-        if let Some(up) = ups[ChipUnit::Wdt.place()] {
-            self.wdt.arrive(up);
-        }
+        hear_uart(&mut self.uart0, ups[ChipUnit::Uart0.place()]);
+        hear_uart(&mut self.uart1, ups[ChipUnit::Uart1.place()]);
+        hear_spi(&mut self.spi, ups[ChipUnit::Spi.place()]);
+        hear_gpio(&mut self.gpio, ups[ChipUnit::Gpio.place()]);
+        hear_pwm(&mut self.pwm, ups[ChipUnit::Pwm.place()]);
+        hear_slink(&mut self.slink, ups[ChipUnit::Slink.place()]);
+        hear_watchdog(&mut self.wdt, ups[ChipUnit::Wdt.place()]);
     }
 
     /// Every front closes.
@@ -135,6 +178,16 @@ impl CoreComplex {
         ensures { result ≡ dma_wanted self.now.dma }
     {
         self.dma.want()
+    }
+
+    /// The bus is granted to one of the masters that want it, by these bits.
+    #[inline(always)]
+    pub(crate) fn grant(&mut self, wants: u8) -> Option<Master>
+        requires { wants < 8 }
+        ensures served { result ≡ granted self.old.arbiter wants }
+        ensures turns { self.new ≡ record self.old { arbiter = after_grant self.old.arbiter wants } }
+    {
+        self.arbiter.grant(wants)
     }
 
     /// Core 0 is granted the request that it waits for.

@@ -9,6 +9,9 @@ act-self-inside-requires c =
     let asked = asks_for c.self.inside.asks (subst (λ (k : SeatKept). is_hand_over k.asks ≡ false) (sym c.self.view_is) c.requires) in
     record { due = c.self.invariant.1 asked.0 c.args.reply asked.1 }
 
+pub invariant_of-self : goal.invariant_of-self
+invariant_of-self c = (c.self.invariant.0, c.act-self-inside.ensures.due)
+
 pub returns : goal.returns
 returns c seat h =
     let kept = subst (λ k. SeatStands k seat) (sym c.self.view_is) h in
