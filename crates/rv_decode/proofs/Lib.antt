@@ -1,4 +1,5 @@
 pub mod Masks
+pub mod Names
 pub mod ParcelParts
 pub mod Table
 pub mod Unique

@@ -21,56 +21,179 @@ pub struct OpRow {
     pub does: Does,
 }
 
-impl OpRow {
-    fn new(name: &'static str, format: Format, cost: CostKind, does: Does) -> OpRow
-        ensures { result ≡ record { name = name.entry; format = format; cost = cost; does = does } }
-    {
-        OpRow {
-            name,
-            format,
-            cost,
-            does,
-        }
+/// The printed name of an operation.
+fn text_of(op: Op) -> &'static str
+    ensures { result.now ≡ (row_of op).name }
+{
+    match op {
+        Op::Lui => "lui",
+        Op::Auipc => "auipc",
+        Op::Jal => "jal",
+        Op::Jalr => "jalr",
+        Op::Beq => "beq",
+        Op::Bne => "bne",
+        Op::Blt => "blt",
+        Op::Bge => "bge",
+        Op::Bltu => "bltu",
+        Op::Bgeu => "bgeu",
+        Op::Lb => "lb",
+        Op::Lh => "lh",
+        Op::Lw => "lw",
+        Op::Lbu => "lbu",
+        Op::Lhu => "lhu",
+        Op::Sb => "sb",
+        Op::Sh => "sh",
+        Op::Sw => "sw",
+        Op::Addi => "addi",
+        Op::Slti => "slti",
+        Op::Sltiu => "sltiu",
+        Op::Xori => "xori",
+        Op::Ori => "ori",
+        Op::Andi => "andi",
+        Op::Slli => "slli",
+        Op::Srli => "srli",
+        Op::Srai => "srai",
+        Op::Add => "add",
+        Op::Sll => "sll",
+        Op::Slt => "slt",
+        Op::Sltu => "sltu",
+        Op::Xor => "xor",
+        Op::Srl => "srl",
+        Op::Or => "or",
+        Op::And => "and",
+        Op::Sub => "sub",
+        Op::Sra => "sra",
+        Op::Mul => "mul",
+        Op::Mulh => "mulh",
+        Op::Mulhsu => "mulhsu",
+        Op::Mulhu => "mulhu",
+        Op::Div => "div",
+        Op::Divu => "divu",
+        Op::Rem => "rem",
+        Op::Remu => "remu",
+        Op::Fence => "fence",
+        Op::FenceI => "fence.i",
+        Op::Csrrw => "csrrw",
+        Op::Csrrs => "csrrs",
+        Op::Csrrc => "csrrc",
+        Op::Csrrwi => "csrrwi",
+        Op::Csrrsi => "csrrsi",
+        Op::Csrrci => "csrrci",
+        Op::Ecall => "ecall",
+        Op::Ebreak => "ebreak",
+        Op::Mret => "mret",
+        Op::Wfi => "wfi",
     }
+}
 
-    fn arithmetic(name: &'static str, format: Format, function: AluFunction) -> OpRow
-        ensures { result ≡ record { name = name.entry; format = format; cost = CostKind.Simple; does = Does.Computes function } }
-    {
-        OpRow::new(name, format, CostKind::Simple, Does::Computes(function))
+/// The format of an operation's operands.
+fn format_of(op: Op) -> Format
+    ensures { result ≡ (row_of op).format }
+{
+    match op {
+        Op::Lui | Op::Auipc => Format::Upper,
+        Op::Jal => Format::Jump,
+        Op::Jalr | Op::Lb | Op::Lh | Op::Lw | Op::Lbu | Op::Lhu => Format::Offset,
+        Op::Beq | Op::Bne | Op::Blt | Op::Bge | Op::Bltu | Op::Bgeu => Format::Branch,
+        Op::Sb | Op::Sh | Op::Sw => Format::Store,
+        Op::Addi | Op::Slti | Op::Sltiu | Op::Xori | Op::Ori | Op::Andi => Format::Immediate,
+        Op::Slli | Op::Srli | Op::Srai => Format::Shift,
+        Op::Add
+        | Op::Sll
+        | Op::Slt
+        | Op::Sltu
+        | Op::Xor
+        | Op::Srl
+        | Op::Or
+        | Op::And
+        | Op::Sub
+        | Op::Sra
+        | Op::Mul
+        | Op::Mulh
+        | Op::Mulhsu
+        | Op::Mulhu
+        | Op::Div
+        | Op::Divu
+        | Op::Rem
+        | Op::Remu => Format::Register,
+        Op::Fence | Op::FenceI | Op::Ecall | Op::Ebreak | Op::Mret | Op::Wfi => Format::Bare,
+        Op::Csrrw | Op::Csrrs | Op::Csrrc => Format::Csr,
+        Op::Csrrwi | Op::Csrrsi | Op::Csrrci => Format::CsrNumber,
     }
+}
 
-    fn shift(name: &'static str, format: Format, function: AluFunction) -> OpRow
-        ensures { result ≡ record { name = name.entry; format = format; cost = CostKind.ByAmount; does = Does.Computes function } }
-    {
-        OpRow::new(name, format, CostKind::ByAmount, Does::Computes(function))
-    }
-
-    fn multiply(name: &'static str, function: AluFunction) -> OpRow
-        ensures { result ≡ record { name = name.entry; format = Format.Register; cost = CostKind.Multiply; does = Does.Computes function } }
-    {
-        OpRow::new(
-            name,
-            Format::Register,
+/// What an operation's cycles depend on.
+fn cost_of(op: Op) -> CostKind
+    ensures { result ≡ (row_of op).cost }
+{
+    match op {
+        Op::Lui
+        | Op::Auipc
+        | Op::Addi
+        | Op::Slti
+        | Op::Sltiu
+        | Op::Xori
+        | Op::Ori
+        | Op::Andi
+        | Op::Add
+        | Op::Slt
+        | Op::Sltu
+        | Op::Xor
+        | Op::Or
+        | Op::And
+        | Op::Sub => CostKind::Simple,
+        Op::Jal | Op::Jalr | Op::Fence | Op::FenceI | Op::Ecall | Op::Ebreak | Op::Mret =>
+            CostKind::Transfer,
+        Op::Beq | Op::Bne | Op::Blt | Op::Bge | Op::Bltu | Op::Bgeu => CostKind::ByTaken,
+        Op::Lb | Op::Lh | Op::Lw | Op::Lbu | Op::Lhu | Op::Sb | Op::Sh | Op::Sw => CostKind::Access,
+        Op::Slli | Op::Srli | Op::Srai | Op::Sll | Op::Srl | Op::Sra => CostKind::ByAmount,
+        Op::Mul | Op::Mulh | Op::Mulhsu | Op::Mulhu | Op::Div | Op::Divu | Op::Rem | Op::Remu =>
             CostKind::Multiply,
-            Does::Computes(function),
-        )
+        Op::Csrrw | Op::Csrrs | Op::Csrrc | Op::Csrrwi | Op::Csrrsi | Op::Csrrci | Op::Wfi =>
+            CostKind::System,
     }
+}
 
-    fn branch(name: &'static str, condition: BranchCondition) -> OpRow
-        ensures { result ≡ record { name = name.entry; format = Format.Branch; cost = CostKind.ByTaken; does = Does.Branches condition } }
-    {
-        OpRow::new(
-            name,
-            Format::Branch,
-            CostKind::ByTaken,
-            Does::Branches(condition),
-        )
-    }
-
-    fn csr(name: &'static str, format: Format, change: CsrChange) -> OpRow
-        ensures { result ≡ record { name = name.entry; format = format; cost = CostKind.System; does = Does.UsesCsr change } }
-    {
-        OpRow::new(name, format, CostKind::System, Does::UsesCsr(change))
+/// What an operation does.
+fn effect_of(op: Op) -> Does
+    ensures { result ≡ (row_of op).does }
+{
+    match op {
+        Op::Lui | Op::Auipc => Does::PutsUpper,
+        Op::Jal | Op::Jalr => Does::Jumps,
+        Op::Beq => Does::Branches(BranchCondition::Equal),
+        Op::Bne => Does::Branches(BranchCondition::NotEqual),
+        Op::Blt => Does::Branches(BranchCondition::Less),
+        Op::Bge => Does::Branches(BranchCondition::NotLess),
+        Op::Bltu => Does::Branches(BranchCondition::LessUnsigned),
+        Op::Bgeu => Does::Branches(BranchCondition::NotLessUnsigned),
+        Op::Lb | Op::Lh | Op::Lw | Op::Lbu | Op::Lhu => Does::Loads,
+        Op::Sb | Op::Sh | Op::Sw => Does::Stores,
+        Op::Addi | Op::Add => Does::Computes(AluFunction::Sum),
+        Op::Slti | Op::Slt => Does::Computes(AluFunction::SetLess),
+        Op::Sltiu | Op::Sltu => Does::Computes(AluFunction::SetLessUnsigned),
+        Op::Xori | Op::Xor => Does::Computes(AluFunction::BitXor),
+        Op::Ori | Op::Or => Does::Computes(AluFunction::BitOr),
+        Op::Andi | Op::And => Does::Computes(AluFunction::BitAnd),
+        Op::Slli | Op::Sll => Does::Computes(AluFunction::ShiftLeft),
+        Op::Srli | Op::Srl => Does::Computes(AluFunction::ShiftRight),
+        Op::Srai | Op::Sra => Does::Computes(AluFunction::ShiftRightArithmetic),
+        Op::Sub => Does::Computes(AluFunction::Difference),
+        Op::Mul => Does::Computes(AluFunction::Product),
+        Op::Mulh => Does::Computes(AluFunction::ProductHigh),
+        Op::Mulhsu => Does::Computes(AluFunction::ProductHighMixed),
+        Op::Mulhu => Does::Computes(AluFunction::ProductHighUnsigned),
+        Op::Div => Does::Computes(AluFunction::Quotient),
+        Op::Divu => Does::Computes(AluFunction::QuotientUnsigned),
+        Op::Rem => Does::Computes(AluFunction::Remainder),
+        Op::Remu => Does::Computes(AluFunction::RemainderUnsigned),
+        Op::Fence | Op::FenceI => Does::Fences,
+        Op::Csrrw | Op::Csrrwi => Does::UsesCsr(CsrChange::Replace),
+        Op::Csrrs | Op::Csrrsi => Does::UsesCsr(CsrChange::SetBits),
+        Op::Csrrc | Op::Csrrci => Does::UsesCsr(CsrChange::ClearBits),
+        Op::Ecall | Op::Ebreak => Does::Traps,
+        Op::Mret => Does::Returns,
+        Op::Wfi => Does::Sleeps,
     }
 }
 
@@ -82,64 +205,11 @@ pub fn op_row(op: Op) -> OpRow
     ensures does { result.does ≡ (row_of op).does }
     ensures bounds { (1 ≤ length result.name.now) × (length result.name.now ≤ 16) }
 {
-    match op {
-        Op::Lui => OpRow::new("lui", Format::Upper, CostKind::Simple, Does::PutsUpper),
-        Op::Auipc => OpRow::new("auipc", Format::Upper, CostKind::Simple, Does::PutsUpper),
-        Op::Jal => OpRow::new("jal", Format::Jump, CostKind::Transfer, Does::Jumps),
-        Op::Jalr => OpRow::new("jalr", Format::Offset, CostKind::Transfer, Does::Jumps),
-        Op::Beq => OpRow::branch("beq", BranchCondition::Equal),
-        Op::Bne => OpRow::branch("bne", BranchCondition::NotEqual),
-        Op::Blt => OpRow::branch("blt", BranchCondition::Less),
-        Op::Bge => OpRow::branch("bge", BranchCondition::NotLess),
-        Op::Bltu => OpRow::branch("bltu", BranchCondition::LessUnsigned),
-        Op::Bgeu => OpRow::branch("bgeu", BranchCondition::NotLessUnsigned),
-        Op::Lb => OpRow::new("lb", Format::Offset, CostKind::Access, Does::Loads),
-        Op::Lh => OpRow::new("lh", Format::Offset, CostKind::Access, Does::Loads),
-        Op::Lw => OpRow::new("lw", Format::Offset, CostKind::Access, Does::Loads),
-        Op::Lbu => OpRow::new("lbu", Format::Offset, CostKind::Access, Does::Loads),
-        Op::Lhu => OpRow::new("lhu", Format::Offset, CostKind::Access, Does::Loads),
-        Op::Sb => OpRow::new("sb", Format::Store, CostKind::Access, Does::Stores),
-        Op::Sh => OpRow::new("sh", Format::Store, CostKind::Access, Does::Stores),
-        Op::Sw => OpRow::new("sw", Format::Store, CostKind::Access, Does::Stores),
-        Op::Addi => OpRow::arithmetic("addi", Format::Immediate, AluFunction::Sum),
-        Op::Slti => OpRow::arithmetic("slti", Format::Immediate, AluFunction::SetLess),
-        Op::Sltiu => OpRow::arithmetic("sltiu", Format::Immediate, AluFunction::SetLessUnsigned),
-        Op::Xori => OpRow::arithmetic("xori", Format::Immediate, AluFunction::BitXor),
-        Op::Ori => OpRow::arithmetic("ori", Format::Immediate, AluFunction::BitOr),
-        Op::Andi => OpRow::arithmetic("andi", Format::Immediate, AluFunction::BitAnd),
-        Op::Slli => OpRow::shift("slli", Format::Shift, AluFunction::ShiftLeft),
-        Op::Srli => OpRow::shift("srli", Format::Shift, AluFunction::ShiftRight),
-        Op::Srai => OpRow::shift("srai", Format::Shift, AluFunction::ShiftRightArithmetic),
-        Op::Add => OpRow::arithmetic("add", Format::Register, AluFunction::Sum),
-        Op::Sll => OpRow::shift("sll", Format::Register, AluFunction::ShiftLeft),
-        Op::Slt => OpRow::arithmetic("slt", Format::Register, AluFunction::SetLess),
-        Op::Sltu => OpRow::arithmetic("sltu", Format::Register, AluFunction::SetLessUnsigned),
-        Op::Xor => OpRow::arithmetic("xor", Format::Register, AluFunction::BitXor),
-        Op::Srl => OpRow::shift("srl", Format::Register, AluFunction::ShiftRight),
-        Op::Or => OpRow::arithmetic("or", Format::Register, AluFunction::BitOr),
-        Op::And => OpRow::arithmetic("and", Format::Register, AluFunction::BitAnd),
-        Op::Sub => OpRow::arithmetic("sub", Format::Register, AluFunction::Difference),
-        Op::Sra => OpRow::shift("sra", Format::Register, AluFunction::ShiftRightArithmetic),
-        Op::Mul => OpRow::multiply("mul", AluFunction::Product),
-        Op::Mulh => OpRow::multiply("mulh", AluFunction::ProductHigh),
-        Op::Mulhsu => OpRow::multiply("mulhsu", AluFunction::ProductHighMixed),
-        Op::Mulhu => OpRow::multiply("mulhu", AluFunction::ProductHighUnsigned),
-        Op::Div => OpRow::multiply("div", AluFunction::Quotient),
-        Op::Divu => OpRow::multiply("divu", AluFunction::QuotientUnsigned),
-        Op::Rem => OpRow::multiply("rem", AluFunction::Remainder),
-        Op::Remu => OpRow::multiply("remu", AluFunction::RemainderUnsigned),
-        Op::Fence => OpRow::new("fence", Format::Bare, CostKind::Transfer, Does::Fences),
-        Op::FenceI => OpRow::new("fence.i", Format::Bare, CostKind::Transfer, Does::Fences),
-        Op::Csrrw => OpRow::csr("csrrw", Format::Csr, CsrChange::Replace),
-        Op::Csrrs => OpRow::csr("csrrs", Format::Csr, CsrChange::SetBits),
-        Op::Csrrc => OpRow::csr("csrrc", Format::Csr, CsrChange::ClearBits),
-        Op::Csrrwi => OpRow::csr("csrrwi", Format::CsrNumber, CsrChange::Replace),
-        Op::Csrrsi => OpRow::csr("csrrsi", Format::CsrNumber, CsrChange::SetBits),
-        Op::Csrrci => OpRow::csr("csrrci", Format::CsrNumber, CsrChange::ClearBits),
-        Op::Ecall => OpRow::new("ecall", Format::Bare, CostKind::Transfer, Does::Traps),
-        Op::Ebreak => OpRow::new("ebreak", Format::Bare, CostKind::Transfer, Does::Traps),
-        Op::Mret => OpRow::new("mret", Format::Bare, CostKind::Transfer, Does::Returns),
-        Op::Wfi => OpRow::new("wfi", Format::Bare, CostKind::System, Does::Sleeps),
+    OpRow {
+        name: text_of(op),
+        format: format_of(op),
+        cost: cost_of(op),
+        does: effect_of(op),
     }
 }
 
