@@ -48,7 +48,10 @@ fn add_positionals<'a>(
     ensures { IfOk result (λ c. app_of c ≡ fold (λ a s. with_positional a s.now) (app_of command.entry) ids.now) }
 {
     for id in ids {
-        command = add_positional(alloc, command, id)?;
+        match add_positional(alloc, command, id) {
+            Ok(next) => command = next,
+            Err(error) => return Err(error),
+        }
     }
     Ok(command)
 }
@@ -62,7 +65,10 @@ fn add_options<'a>(
     ensures { IfOk result (λ c. app_of c ≡ fold (λ a s. with_option a s.now) (app_of command.entry) ids.now) }
 {
     for id in ids {
-        command = add_option(alloc, command, id)?;
+        match add_option(alloc, command, id) {
+            Ok(next) => command = next,
+            Err(error) => return Err(error),
+        }
     }
     Ok(command)
 }
@@ -77,8 +83,10 @@ fn command_of<'a>(
     ensures { IfOk result (λ c. app_of c ≡ fold (λ a s. with_option a s.now) (fold (λ a s. with_positional a s.now) (bare name.entry.now) positionals.now) options.now) }
 {
     let command = bare_command(alloc, name);
-    let command = add_positionals(alloc, command, positionals)?;
-    add_options(alloc, command, options)
+    match add_positionals(alloc, command, positionals) {
+        Ok(command) => add_options(alloc, command, options),
+        Err(error) => Err(error),
+    }
 }
 
 static RUN_POSITIONALS: [&str; 2] = ["IMAGE", "CYCLES"];

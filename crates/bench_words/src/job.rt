@@ -2,14 +2,12 @@
 ghost use Rattle.std.specs.Prelude.{◌≡◌, [], IfOk, Some, None, map, option_map, string_bytes, true};
 ghost use Rattle.std.specs.List.{list_any};
 ghost use Rattle.std.specs.Str.{bytes_eq};
-ghost use Rattle.clap.specs.Words.{found_of, is_simple_and_free, rows_of};
-ghost use Rattle.bench_words.specs.Apps.{check_app, debug_app, demo_app, image_app, rows_taken, run_app};
-ghost use Rattle.bench_words.specs.Jobs.{boot_named, boot_or_monitor, checking_from, checking_job, checking_of, checking_view, debug_from, debug_job, debug_of, debug_view, demo_from, demo_job, demo_of, demo_view, groups_or_all, job_named, job_of, job_view, making_from, making_job, making_of, making_view, part_named, run_from, run_job, run_view, run_with, trace_or_none, u32_of};
+ghost use Rattle.clap.specs.Words.{found_of, rows_of};
+ghost use Rattle.bench_words.specs.Kinds.{job_found};
+ghost use Rattle.bench_words.specs.Jobs.{boot_named, boot_or_monitor, checking_from, checking_of, checking_view, debug_from, debug_of, debug_view, demo_from, demo_of, demo_view, groups_or_all, job_named, job_of, job_view, making_from, making_of, making_view, part_named, run_from, run_view, run_with, trace_or_none, u32_of};
 
-use crate::command::{
-    check_command, debug_command, demo_command, image_command, matches_of_words, run_command,
-    text_of,
-};
+use crate::command::text_of;
+use crate::kind::{JobKind, kind_named, matches_of_kind};
 use bench_parts::NamedPart;
 use chip_base::{Boot, Groups, NoMemory};
 use clap::ArgMatches;
@@ -212,23 +210,6 @@ fn run_found<'a>(
     )
 }
 
-/// The run of the words of `run`, its name among them.
-fn read_run<'a>(
-    alloc: Global,
-    words: &'a [String],
-    parts: &[NamedPart],
-) -> Result<Option<RunJob<'a>>, NoMemory>
-    ensures { IfOk result (λ job. option_map run_view job ≡ run_job (map (λ p. p.name) parts.now) (map string_bytes words.entry.now)) }
-{
-    let Ok(command) = run_command(alloc) else {
-        return Err(NoMemory);
-    };
-    match matches_of_words(command, words)? {
-        Some(found) => Ok(run_found(&found, parts, text_of(&found, "trace"))),
-        None => Ok(None),
-    }
-}
-
 /// The debugger's session of this run and this file of commands.
 #[tactic(auto, unfolding(crate::specs::Jobs::debug_from))]
 fn debug_with<'a>(run: Option<RunJob<'a>>, commands: Option<&'a str>) -> Option<DebugJob<'a>>
@@ -245,23 +226,6 @@ fn debug_found<'a>(found: &ArgMatches<'a>, parts: &[NamedPart]) -> Option<DebugJ
 {
     let run = run_found(found, parts, None);
     debug_with(run, text_of(found, "COMMANDS"))
-}
-
-/// The debugger's session of the words of `debug`, its name among them.
-fn read_debug<'a>(
-    alloc: Global,
-    words: &'a [String],
-    parts: &[NamedPart],
-) -> Result<Option<DebugJob<'a>>, NoMemory>
-    ensures { IfOk result (λ job. option_map debug_view job ≡ debug_job (map (λ p. p.name) parts.now) (map string_bytes words.entry.now)) }
-{
-    let Ok(command) = debug_command(alloc) else {
-        return Err(NoMemory);
-    };
-    match matches_of_words(command, words)? {
-        Some(found) => Ok(debug_found(&found, parts)),
-        None => Ok(None),
-    }
 }
 
 /// The demo of these values.
@@ -281,19 +245,6 @@ fn demo_found(found: &ArgMatches<'_>) -> Option<DemoJob>
     let number = text_of(found, "NUMBER");
     let groups = text_of(found, "groups");
     demo_with(number, groups)
-}
-
-/// The demo of the words of `demo`, its name among them.
-fn read_demo(alloc: Global, words: &[String]) -> Result<Option<DemoJob>, NoMemory>
-    ensures { IfOk result (λ job. option_map demo_view job ≡ demo_job (map string_bytes words.entry.now)) }
-{
-    let Ok(command) = demo_command(alloc) else {
-        return Err(NoMemory);
-    };
-    match matches_of_words(command, words)? {
-        Some(found) => Ok(demo_found(&found)),
-        None => Ok(None),
-    }
 }
 
 /// The image to be made, of these values.
@@ -321,19 +272,6 @@ fn image_found<'a>(found: &ArgMatches<'a>) -> Option<ImageJob<'a>>
     image_with(payload, out, chip)
 }
 
-/// The image to be made, of the words of `image`, its name among them.
-fn read_image<'a>(alloc: Global, words: &'a [String]) -> Result<Option<ImageJob<'a>>, NoMemory>
-    ensures { IfOk result (λ job. option_map making_view job ≡ making_job (map string_bytes words.entry.now)) }
-{
-    let Ok(command) = image_command(alloc) else {
-        return Err(NoMemory);
-    };
-    match matches_of_words(command, words)? {
-        Some(found) => Ok(image_found(&found)),
-        None => Ok(None),
-    }
-}
-
 /// The image to be checked, of these values.
 #[tactic(auto, unfolding(crate::specs::Jobs::checking_from))]
 fn check_with<'a>(image: Option<&'a str>, chip: Option<&'a str>) -> Option<CheckJob<'a>>
@@ -352,16 +290,16 @@ fn check_found<'a>(found: &ArgMatches<'a>) -> Option<CheckJob<'a>>
     check_with(image, chip)
 }
 
-/// The image to be checked, of the words of `check`, its name among them.
-fn read_check<'a>(alloc: Global, words: &'a [String]) -> Result<Option<CheckJob<'a>>, NoMemory>
-    ensures { IfOk result (λ job. option_map checking_view job ≡ checking_job (map string_bytes words.entry.now)) }
+/// The job of what was found in the words of a command of this kind.
+fn job_found<'a>(kind: JobKind, found: &ArgMatches<'a>, parts: &[NamedPart]) -> Option<Job<'a>>
+    ensures { option_map job_view result ≡ job_found (map (λ p. p.name) parts.now) kind (rows_of (found_of found.now)) }
 {
-    let Ok(command) = check_command(alloc) else {
-        return Err(NoMemory);
-    };
-    match matches_of_words(command, words)? {
-        Some(found) => Ok(check_found(&found)),
-        None => Ok(None),
+    match kind {
+        JobKind::Run => Some(Job::Run(run_found(found, parts, text_of(found, "trace"))?)),
+        JobKind::Debug => Some(Job::Debug(debug_found(found, parts)?)),
+        JobKind::Demo => Some(Job::Demo(demo_found(found)?)),
+        JobKind::Image => Some(Job::Image(image_found(found)?)),
+        JobKind::Check => Some(Job::Check(check_found(found)?)),
     }
 }
 
@@ -374,16 +312,13 @@ fn read_named<'a>(
 ) -> Result<Option<Job<'a>>, NoMemory>
     ensures { IfOk result (λ job. option_map job_view job ≡ job_named (map (λ p. p.name) parts.now) name.now (map string_bytes words.entry.now)) }
 {
-    match name {
-        "run" => Ok(read_run(alloc, words, parts)?.map(Job::Run)),
-        "image" => Ok(read_image(alloc, words)?.map(Job::Image)),
-        "check" => Ok(read_check(alloc, words)?.map(Job::Check)),
-        "debug" => Ok(read_debug(alloc, words, parts)?.map(Job::Debug)),
-        "demo" => match read_demo(alloc, words)? {
-            Some(demo) => Ok(Some(Job::Demo(demo))),
-            None => Ok(None),
-        },
-        _ => Ok(None),
+    let Some(kind) = kind_named(name) else {
+        return Ok(None);
+    };
+    match matches_of_kind(alloc, kind, words) {
+        Ok(Some(found)) => Ok(job_found(kind, &found, parts)),
+        Ok(None) => Ok(None),
+        Err(_) => Err(NoMemory),
     }
 }
 

@@ -3,5 +3,6 @@
 
 mod command;
 mod job;
+mod kind;
 
 pub use job::{CheckJob, DebugJob, DemoJob, ImageJob, Job, RunJob, read_job};

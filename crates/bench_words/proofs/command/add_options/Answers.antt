@@ -5,5 +5,5 @@ use Rattle.bench_words.proofs.Taken.{added}
 use Rattle.bench_words.proofs.command.add_options.Goals as goal
 
 pub loop-id-preserved : goal.loop-id-preserved
-loop-id-preserved c = added (λ a s. with_option a s.now) (app_of c.args.command) (app_of c.loop-id.command) (app_of c.in_ok-command.command)
-    c.args.ids.now c.loop-id.id-index (record { ref_ptr = (0, 0); now = [] }) c.loop-id-test.true c.loop-id.invariant c.in_ok-command.ensures
+loop-id-preserved c = added (λ a s. with_option a s.now) (app_of c.args.command) (app_of c.loop-id.command) (app_of c.in-Ok.next)
+    c.args.ids.now c.loop-id.id-index (record { ref_ptr = (0, 0); now = [] }) c.loop-id-test.true c.loop-id.invariant c.in-Ok.ensures
