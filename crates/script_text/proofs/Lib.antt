@@ -1,6 +1,7 @@
 pub mod ChipAnswers
 pub mod ChipRound
 pub mod KeySteps
+pub mod LineSteps
 pub mod Lists
 pub mod NumberRound
 pub mod PinRound

@@ -54,15 +54,32 @@ fn with_key(mut setup: Setup, key: &str, value: &Value) -> Result<Setup, KeyFaul
     ensures { with_value values_of result ≡ read_plain key.now (view value.now) (values_of setup) }
 {
     match key {
-        "clock" => setup.clock = integer_at(value, 1, 4_294_967_295, 1)?,
-        "imem" => setup.imem = integer_at(value, 4096, 1_048_576, 4096)?,
-        "dmem" => setup.dmem = integer_at(value, 4096, 1_048_576, 4096)?,
-        "prescaler" => setup.prescaler = integer_at(value, 0, 7, 1)? as u8,
-        "baud" => setup.baud = integer_at(value, 0, 1023, 1)? as u16,
-        "flash" => setup.flash = boolean_at(value)?,
-        _ => return Err(KeyFault::Key),
+        "clock" => {
+            setup.clock = integer_at(value, 1, 4_294_967_295, 1)?;
+            Ok(setup)
+        }
+        "imem" => {
+            setup.imem = integer_at(value, 4096, 1_048_576, 4096)?;
+            Ok(setup)
+        }
+        "dmem" => {
+            setup.dmem = integer_at(value, 4096, 1_048_576, 4096)?;
+            Ok(setup)
+        }
+        "prescaler" => {
+            setup.prescaler = integer_at(value, 0, 7, 1)? as u8;
+            Ok(setup)
+        }
+        "baud" => {
+            setup.baud = integer_at(value, 0, 1023, 1)? as u16;
+            Ok(setup)
+        }
+        "flash" => {
+            setup.flash = boolean_at(value)?;
+            Ok(setup)
+        }
+        _ => Err(KeyFault::Key),
     }
-    Ok(setup)
 }
 
 /// Where a unit's delay stands.
@@ -80,12 +97,16 @@ fn place_of(key: &str) -> Option<usize>
 fn with_delay_key(mut setup: Setup, key: &str, value: &Value) -> Result<Setup, KeyFault>
     ensures { with_value values_of result ≡ read_delay key.now (view value.now) (values_of setup) }
 {
-    let place = match place_of(key) {
-        Some(place) => place,
-        None => return Err(KeyFault::Key),
+    let Some(place) = place_of(key) else {
+        return Err(KeyFault::Key);
     };
-    setup.delay[place] = integer_at(value, 1, 4096, 1)?;
-    Ok(setup)
+    match integer_at(value, 1, 4096, 1) {
+        Ok(cycles) => {
+            setup.delay[place] = cycles;
+            Ok(setup)
+        }
+        Err(fault) => Err(fault),
+    }
 }
 
 /// A fault at a key, which may be one of the table of delays.

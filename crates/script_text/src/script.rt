@@ -12,45 +12,45 @@ use chip_base::{PinStep, Pins, Script, Steps0, UartStep};
 use std::alloc::Global;
 use text_fields::lines::cut_line;
 
-/// What was found, with one item more.
+/// Adds one item to what was found.
 #[tactic(auto, using(crate::proofs::Valid::pins_more, crate::proofs::Valid::steps_more, crate::proofs::Valid::last_more))]
-fn add_item(mut found: Found, item: Item) -> Result<Found, ScriptKind>
-    requires found { IsFound found }
-    requires follows { may_follow found.last item ≡ true }
-    ensures added { IfOk result (λ f. script_found f ≡ added (script_found found) item) }
-    ensures valid { IfOk result (λ f. IsFound f) }
+fn add_item(found: &mut Found, item: Item) -> Result<(), ScriptKind>
+    requires found { IsFound found.old }
+    requires follows { may_follow found.old.last item ≡ true }
+    ensures added { IfOk result (λ _. script_found found.new ≡ added (script_found found.old) item) }
+    ensures valid { IfOk result (λ _. IsFound found.new) }
     ensures memory { IfErr result (λ k. k ≡ ScriptKind.Memory) }
 {
     match item {
-        Item::Nothing => Ok(found),
+        Item::Nothing => Ok(()),
         Item::Pin(pin) => {
             found.last = pin.cycle as u32;
             match found.pins.push(pin) {
-                Ok(()) => Ok(found),
+                Ok(()) => Ok(()),
                 Err(_) => Err(ScriptKind::Memory),
             }
         }
         Item::Uart0(step) => match found.uart0.push(step) {
-            Ok(()) => Ok(found),
+            Ok(()) => Ok(()),
             Err(_) => Err(ScriptKind::Memory),
         },
         Item::Uart1(step) => match found.uart1.push(step) {
-            Ok(()) => Ok(found),
+            Ok(()) => Ok(()),
             Err(_) => Err(ScriptKind::Memory),
         },
     }
 }
 
-/// What was found, with one line more.
-fn add_line(alloc: Global, found: Found, text: &[u8]) -> Result<Found, ScriptKind>
-    requires { IsFound found }
-    ensures ok { IfOk result (λ f. with_line (script_found found) text.now ≡ Ok (script_found f)) }
-    ensures valid { IfOk result (λ f. IsFound f) }
-    ensures err { IfErr result (λ k. (k ≡ ScriptKind.Memory) ⊎ (with_line (script_found found) text.now ≡ Err k)) }
+/// Adds one line to what was found.
+fn add_line(alloc: Global, found: &mut Found, text: &[u8]) -> Result<(), ScriptKind>
+    requires { IsFound found.old }
+    ensures ok { IfOk result (λ _. with_line (script_found found.old) text.now ≡ Ok (script_found found.new)) }
+    ensures valid { IfOk result (λ _. IsFound found.new) }
+    ensures err { IfErr result (λ k. (k ≡ ScriptKind.Memory) ⊎ (with_line (script_found found.old) text.now ≡ Err k)) }
     ensures some { IfErr result (λ k. 0 < length text.now) }
 {
     if text.is_empty() {
-        return Ok(found);
+        return Ok(());
     }
     match read_line(alloc, found.last, text) {
         Ok(item) => add_item(found, item),
@@ -76,8 +76,8 @@ fn read_found(alloc: Global, text: &[u8]) -> Result<Found, ScriptFault>
     let mut rest = Some(text);
     while let Some(left) = rest {
         let (this, more) = cut_line(left);
-        match add_line(alloc, found, this) {
-            Ok(next) => found = next,
+        match add_line(alloc, &mut found, this) {
+            Ok(()) => {}
             Err(kind) => return Err(ScriptFault {
                 line: line as u32,
                 kind,

@@ -1,7 +1,9 @@
 //! One line of a script.
-ghost use Rattle.std.specs.Prelude.{◌≡◌, ◌≤◌, ◌<◌, ◌⊎◌, ◌^◌, ◌&&◌, length, Ok, Err, IfErr, IfOk, true};
+ghost use Rattle.std.specs.Prelude.{◌≡◌, ◌≤◌, ◌<◌, ◌⊎◌, ◌^◌, ◌&&◌, length, if◌then◌else◌, Ok, Err, IfErr, IfOk, true};
 ghost use Rattle.chip_base.specs.Steps.{is_step};
-ghost use Rattle.script_text.specs.ScriptLine.{at_of, ends, expect_of, hex_field, hex_of, number_field, pin_of, send_of, text_field, uart_of};
+ghost use Rattle.chip_base.specs.declared.script.UartStep.TheVariants.{Expect};
+ghost use Rattle.script_text.specs.ScriptLine.{at_of, closed, ends, expect_of, hex_field, hex_of, number_field, pin_of, send_of, text_field, uart_of};
+ghost use Rattle.text_fields.specs.Quoted.{quoted_text};
 ghost use Rattle.script_text.specs.ScriptFile.{item_named, line_of};
 ghost use Rattle.script_text.specs.ScriptRead.{bytes_view, may_follow, number_view};
 
@@ -44,6 +46,23 @@ fn hex_field<'a>(alloc: Global, text: &'a [u8]) -> Result<(Bytes, &'a [u8]), Scr
     }
 }
 
+/// The bytes of a text behind its opening quote, and what follows its closing one.
+fn closed_text<'a>(alloc: Global, text: &'a [u8]) -> Result<(Bytes, &'a [u8]), ScriptKind>
+    ensures ok { IfOk result (λ r. closed (quoted_text text.entry.now) ≡ Ok (bytes_view r)) }
+    ensures err { IfErr result (λ k. (k ≡ ScriptKind.Memory) ⊎ (closed (quoted_text text.entry.now) ≡ Err k)) }
+{
+    match read_quoted(alloc, text) {
+        Ok(Some((bytes, rest))) => {
+            if !ends_field(rest) {
+                return Err(ScriptKind::Text);
+            }
+            Ok((Bytes::from_vec(bytes), skip(rest)))
+        }
+        Ok(None) => Err(ScriptKind::Text),
+        Err(_) => Err(ScriptKind::Memory),
+    }
+}
+
 /// The bytes of a quoted text at the front of a line, and what follows it.
 #[tactic(auto, unfolding(crate::specs::ScriptLine::text_field))]
 fn text_field<'a>(alloc: Global, text: &'a [u8]) -> Result<(Bytes, &'a [u8]), ScriptKind>
@@ -57,16 +76,7 @@ fn text_field<'a>(alloc: Global, text: &'a [u8]) -> Result<(Bytes, &'a [u8]), Sc
     if *first != b'"' {
         return Err(ScriptKind::Text);
     }
-    match read_quoted(alloc, more) {
-        Ok(Some((bytes, rest))) => {
-            if !ends_field(rest) {
-                return Err(ScriptKind::Text);
-            }
-            Ok((Bytes::from_vec(bytes), skip(rest)))
-        }
-        Ok(None) => Err(ScriptKind::Text),
-        Err(_) => Err(ScriptKind::Memory),
-    }
+    closed_text(alloc, more)
 }
 
 /// A pin's change, after a pin line with the cycle `last`.
@@ -130,6 +140,18 @@ fn read_at(text: &[u8]) -> Result<UartStep, ScriptKind>
     }
 }
 
+/// A wait for these bytes at the end of a line.
+fn expected(bytes: Bytes, rest: &[u8]) -> Result<UartStep, ScriptKind>
+    ensures value { result ≡ (if is_step (Expect bytes) then ends (Expect bytes) rest.now else Err ScriptKind.Text) }
+    ensures valid { IfOk result (λ s. is_step s ≡ true) }
+{
+    let count = bytes.as_slice().len();
+    if count == 0 || count > 64 {
+        return Err(ScriptKind::Text);
+    }
+    last_field(UartStep::Expect(bytes), rest)
+}
+
 /// A wait for a text.
 #[tactic(auto, unfolding(crate::specs::ScriptLine::expect_of))]
 fn read_expect(alloc: Global, text: &[u8]) -> Result<UartStep, ScriptKind>
@@ -138,13 +160,7 @@ fn read_expect(alloc: Global, text: &[u8]) -> Result<UartStep, ScriptKind>
     ensures valid { IfOk result (λ s. is_step s ≡ true) }
 {
     match text_field(alloc, text) {
-        Ok((bytes, rest)) => {
-            let count = bytes.as_slice().len();
-            if count == 0 || count > 64 {
-                return Err(ScriptKind::Text);
-            }
-            last_field(UartStep::Expect(bytes), rest)
-        }
+        Ok((bytes, rest)) => expected(bytes, rest),
         Err(kind) => Err(kind),
     }
 }
@@ -183,13 +199,19 @@ fn read_uart(alloc: Global, text: &[u8]) -> Result<UartStep, ScriptKind>
     ensures valid { IfOk result (λ s. is_step s ≡ true) }
 {
     let rest = after_field(text);
-    match field(text) {
-        b"at" => read_at(rest),
-        b"expect" => read_expect(alloc, rest),
-        b"send" => read_send(alloc, rest),
-        b"hex" => read_hex(alloc, rest),
-        b"image" => last_field(UartStep::Image, rest),
-        _ => Err(ScriptKind::Word),
+    let word = field(text);
+    if word == b"at".as_slice() {
+        read_at(rest)
+    } else if word == b"expect".as_slice() {
+        read_expect(alloc, rest)
+    } else if word == b"send".as_slice() {
+        read_send(alloc, rest)
+    } else if word == b"hex".as_slice() {
+        read_hex(alloc, rest)
+    } else if word == b"image".as_slice() {
+        last_field(UartStep::Image, rest)
+    } else {
+        Err(ScriptKind::Word)
     }
 }
 
