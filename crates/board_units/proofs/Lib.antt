@@ -6,3 +6,4 @@ pub mod Script
 pub mod Start
 pub mod Timeout
 pub mod Wave
+pub mod PwmGiven

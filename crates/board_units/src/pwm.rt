@@ -148,7 +148,6 @@ impl Pwm {
 
     /// One cycle: takes the message that arrives in it, if there is one, and gives what leaves the unit: the event of a change
     /// of the outputs, as a mask with the channel's bit where its output is high, and that a Reset was done.
-    #[tactic(auto, unfolding(crate::specs::PwmCycle::pwm_cycle))]
     pub fn cycle(&mut self, now: Cycle, down: Option<Down>) -> UnitOut
         ensures unit { self.new ≡ (pwm_cycle self.old now down).unit }
         ensures up { result.up ≡ (pwm_cycle self.old now down).up }

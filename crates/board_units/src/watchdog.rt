@@ -33,7 +33,6 @@ impl Watchdog {
     ghost use Rattle.board_units.specs.Laws.{AnswersResets};
 
     /// The unit at power-on: disabled.
-    #[tactic(auto, using(crate::proofs::Timeout::keeps_time, crate::proofs::Fires::fires_once_until_reset))]
     pub fn new() -> Watchdog
         ensures state { result ≡ watchdog_reset }
         ensures time { KeepsTime }
@@ -110,7 +109,7 @@ impl Watchdog {
 
     /// One cycle: takes the message that arrives in it, if there is one, and gives what leaves the unit: that it fired, with the event of
     /// it, or that a Reset was done.
-    #[tactic(auto, unfolding(crate::specs::WatchdogCycle::watchdog_cycle), using(crate::proofs::Fires::fires_once, crate::proofs::Fires::rests_disabled))]
+    #[tactic(auto, unfolding(crate::specs::WatchdogCycle::watchdog_cycle))]
     pub fn cycle(&mut self, now: Cycle, down: Option<Down>) -> UnitOut
         ensures unit { self.new ≡ (watchdog_cycle self.old now down).unit }
         ensures up { result.up ≡ (watchdog_cycle self.old now down).up }

@@ -2,9 +2,10 @@
 use Rattle.std.proofs.Common.{◌≡◌, ℕ, suc, ◌+◌, ◌-◌, ◌*◌, ◌<◌, ◌≤◌, Bool, true, false, List, ◌∷◌, refl, sym, ap, ap₂, ◌∙◌, arith}
 use Rattle.std.proofs.lemmas.Bool.Decides.{nat_tests}
 use Rattle.std.specs.Prelude.{◌≢◌, ◌%◌, ◌/◌, nat_lt}
-use Rattle.boot_monitor.specs.Actions.{Action, Fetch, address_sent, deselect, fetches, page_words, program_words, programs, wait, write_enable}
-use Rattle.boot_monitor.specs.Errands.{after_act, errand_of, following, header_left, page_address, pages_left, word_address, words_in, words_left}
+use Rattle.boot_monitor.specs.Actions.{Action, Fetch, address_sent, blocks, burning, deselect, erases, fetches, page_words, program_words, programs, wait, write_enable}
+use Rattle.boot_monitor.specs.Errands.{after_act, block_address, blocks_left, errand_of, following, header_left, page_address, pages_left, word_address, words_in, words_left}
 use Rattle.boot_monitor.specs.declared.phases.Errand.TheVariants.{Program}
+use Rattle.boot_monitor.specs.declared.phases.Held.{Held}
 use Rattle.boot_monitor.specs.declared.phases.Page.{Page}
 use Rattle.boot_monitor.proofs.Rest.{if-true, if-false}
 
@@ -103,3 +104,10 @@ word-within page index hn hi = go (nat_lt page.number (page.image.length / 256))
     go : (b : Bool) → nat_lt page.number (page.image.length / 256) ≡ b → word_address page index < page.image.length
     go true e = omega (arith, hi, words-whole page e, is-below page.number (page.image.length / 256) e)
     go false e = omega (arith, hi, hn, words-part page e, isn't-below page.number (page.image.length / 256) e)
+
+-- an image is stored from its first block on
+pub burning-is : (image : Held) → blocks_left image 0 ≡ burning image.length image.check
+burning-is image =
+    let all : blocks image.length - 0 ≡ blocks image.length = omega arith in
+    let pages : image.length / 256 - 0 ≡ image.length / 256 = omega arith in
+    ap₂ (λ (k n : ℕ). erases (block_address 0) k (programs (page_address 0) (256 * 0) n (image.length % 256 / 4) (header_left image))) all pages

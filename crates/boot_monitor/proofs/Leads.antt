@@ -1,7 +1,7 @@
 -- The bytes that the flash is sent, from a place on.
-use Rattle.std.proofs.Common.{◌≡◌, ℕ, zero, suc, ◌<◌, List, [], ◌∷◌, length, drop, get_or, sym, ap, arith}
-use Rattle.std.specs.Prelude.{Some, None, slice_get}
-use Rattle.boot_monitor.specs.Actions.{Action, Drop, send, transfer}
+use Rattle.std.proofs.Common.{◌≡◌, ℕ, zero, suc, ◌<◌, List, [], ◌∷◌, length, drop, get_or, refl, sym, ap, arith}
+use Rattle.std.specs.Prelude.{Some, None, slice_get, unwrap_or}
+use Rattle.boot_monitor.specs.Actions.{Action, Drop, Mind, send, settled, transfer}
 use Rattle.boot_monitor.specs.Errands.{frame_rest, lead}
 use Rattle.boot_monitor.specs.Phases.{todo_in}
 use Rattle.boot_monitor.specs.declared.phases.Errand.{Errand}
@@ -30,3 +30,14 @@ lead-goes frame errand place b ctrl count size h =
 pub lead-ends : (frame : Frame) (errand : Errand) (place size : ℕ) → slice_get (lead frame errand) place ≡ None
     → frame_rest frame errand size ≡ send (drop place (lead frame errand)) (frame_rest frame errand size)
 lead-ends frame errand place size h = sym (ap (λ t. send t (frame_rest frame errand size)) (drop-end (lead frame errand) place h))
+
+pub lead-begins : (frame : Frame) (errand : Errand) (room ctrl count size : ℕ) (i : Mind) → 0 < length (lead frame errand)
+    → settled room ctrl (send (lead frame errand) (frame_rest frame errand size)) i ≡ record { todo = todo_in (Transferring (Lead frame errand 0)) ctrl count size; mind = i }
+lead-begins frame errand room ctrl count size i h = ap (λ t. settled room ctrl t i) (sym (send-next (lead frame errand) 0 (frame_rest frame errand size) h))
+
+-- the byte at a place, and 0 behind the end
+pub got-or : (xs : List ℕ) (place : ℕ) → unwrap_or (slice_get xs place) 0 ≡ get_or xs place 0
+got-or [] zero = refl
+got-or [] (suc place) = refl
+got-or (x ∷ xs) zero = refl
+got-or (x ∷ xs) (suc place) = got-or xs place

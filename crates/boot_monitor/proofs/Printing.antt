@@ -2,13 +2,15 @@
 use Rattle.std.proofs.Common.{◌≡◌, ℕ, zero, suc, ◌+◌, ◌<◌, true, false, List, [], ◌∷◌, length, drop, get_or, refl, sym, ap, ◌∙◌, arith, subst, add-one}
 use Rattle.std.specs.Prelude.{Some, None, slice_get, ◌==◌, bit_and}
 use Rattle.boot_monitor.proofs.Rest.{IsOpen, settled-open, open-print, if-true, if-false}
+use Rattle.boot_monitor.specs.declared.phases.Purpose.{Purpose}
+use Rattle.boot_monitor.specs.declared.phases.Purpose.TheVariants.{Command, Header, Payload}
 use Rattle.boot_monitor.specs.declared.phases.Setting.TheVariants.{Imem, Dmem, Clock}
 use Rattle.boot_monitor.specs.declared.phases.Text.{Text}
 use Rattle.boot_monitor.specs.declared.phases.Text.TheVariants.{Greeting, Help, Name, Digits, InformationEnd, Up, Done, NoneHeld, UnknownCommand, BadSignature, BadSize, BadChecksum, BadFlash, Go}
 use Rattle.boot_monitor.specs.declared.phases.Phase.{Phase}
 use Rattle.boot_monitor.specs.declared.phases.Phase.TheVariants.{AwaitingRoom, Sending}
-use Rattle.boot_monitor.specs.Actions.{Action, Save, Mind, answered, asks, is_full, load, print, store, uart_ctrl, uart_data}
-use Rattle.boot_monitor.specs.Phases.{IsReady, after_text, text_of, todo_in}
+use Rattle.boot_monitor.specs.Actions.{Action, Save, Mind, answered, asks, is_full, load, print, settled, store, uart_ctrl, uart_data}
+use Rattle.boot_monitor.specs.Phases.{IsReady, after_text, taking, text_of, todo_in}
 
 pub drop-next : (text : List ℕ) (place : ℕ) → place < length text → drop place text ≡ get_or text place 0 ∷ drop (suc place) text
 drop-next [] place h = let bad : ⊥ = omega arith in elim bad [ ]
@@ -91,3 +93,15 @@ module _ (room ctrl count size : ℕ) (i : Mind) (word : ℕ) where
 -- a text from a byte's place on begins with no decision
 pub open-from : (text : Text) (place : ℕ) → place < length (text_of text) → IsOpen (print (drop place (text_of text)) (after_text text))
 open-from text place h = subst (λ x. IsOpen (print x (after_text text))) (sym (drop-next (text_of text) place h)) tt
+
+-- so does the taking of a byte
+pub taking-settled : (purpose : Purpose) (room ctrl count size : ℕ) (i : Mind)
+    → settled room ctrl (taking purpose count size) i ≡ record { todo = taking purpose count size; mind = i }
+taking-settled Command room ctrl count size i = refl
+taking-settled Header room ctrl count size i = refl
+taking-settled Payload room ctrl count size i = refl
+
+pub asks-taken : (purpose : Purpose) (count size : ℕ) (bytes : List ℕ) → load uart_data ≡ asks (taking purpose count size) bytes
+asks-taken Command count size bytes = refl
+asks-taken Header count size bytes = refl
+asks-taken Payload count size bytes = refl

@@ -1,14 +1,15 @@
 -- What a reply does to the monitor, in each kind of phase.
-use Rattle.std.proofs.Common.{◌≡◌, ℕ, List, refl, sym, ap, ap₂, ◌∙◌, subst}
+use Rattle.std.proofs.Common.{◌≡◌, ℕ, ◌<◌, List, length, refl, sym, ap, ap₂, ◌∙◌, subst}
 use Rattle.std.specs.Prelude.{Option, Some, None}
 use Rattle.boot_monitor.specs.Actions.{Action, ActionState, after_replies, answered, begun, settled}
-use Rattle.boot_monitor.specs.Phases.{Goes, IsComing, IsIn, IsReady, IsStarted, IsUnderWay, mind_of, todo_in}
+use Rattle.boot_monitor.specs.Phases.{Goes, IsComing, IsCounted, IsIn, IsReady, IsSound, IsStarted, IsUnderWay, mind_of, text_of, todo_in}
 use Rattle.boot_monitor.specs.Standing.{Stands, given_by}
 use Rattle.boot_monitor.specs.Tallies.{Counts}
 use Rattle.boot_monitor.specs.declared.exchange.MonitorIn.TheVariants.{Start, Word}
 use Rattle.boot_monitor.specs.declared.phases.MonitorState.{MonitorState}
 use Rattle.boot_monitor.specs.declared.phases.Phase.{Phase}
-use Rattle.boot_monitor.specs.declared.phases.Phase.TheVariants.{Unstarted}
+use Rattle.boot_monitor.specs.declared.phases.Phase.TheVariants.{AwaitingRoom, Unstarted}
+use Rattle.boot_monitor.specs.declared.phases.Text.{Text}
 use Rattle.boot_monitor.proofs.Opens.{open-phase}
 use Rattle.boot_monitor.proofs.Rest.{settled-open}
 
@@ -33,6 +34,40 @@ reached m q todo bytes room ctrl e started ready counts =
     subst (λ todo. IsIn (record m { phase = q }) (settled room ctrl todo (mind_of m bytes))) e
     (subst (IsIn (record m { phase = q })) (sym (settled-open room ctrl _ (mind_of m bytes) (open-phase q m.ctrl m.tally.count m.tally.size started ready)))
     (record { todo = refl; held = refl; status = refl; counts = counts }))
+
+-- in another phase it is sound, and these actions are ahead
+module _ (m n : MonitorState) (p : Phase) (e : n ≡ record m { phase = p }) where
+  pub moves : IsSound m → IsStarted p → IsReady p → IsCounted p m.room m.tally.count m.tally.size → Goes m n
+  moves sound started ready counted = subst (Goes m) (sym e) (record {
+    room = refl;
+    ctrl = refl;
+    started = started;
+    sound = record { size = sound.size; ready = ready; counted = counted; part = sound.part; held_fits = sound.held_fits };
+  })
+
+  pub stays : (todo : List Action) (bytes : List ℕ) → todo_in p m.ctrl m.tally.count m.tally.size ≡ todo → (IsComing p → Counts m.tally bytes)
+      → IsIn n (record { todo = todo; mind = mind_of m bytes })
+  stays todo bytes h counts =
+      subst (λ n. IsIn n (record { todo = todo; mind = mind_of m bytes })) (sym e) (record { todo = sym h; held = refl; status = refl; counts = counts })
+
+-- a word turns the phase into another
+pub turns : (m n : MonitorState) (s : ActionState) (word : ℕ) (p : Phase) → n ≡ record m { phase = p } → IsIn m s
+    → answered m.room m.ctrl (todo_in m.phase m.ctrl m.tally.count m.tally.size) (mind_of m s.mind.bytes) word
+    ≡ record { todo = todo_in p m.ctrl m.tally.count m.tally.size; mind = mind_of m s.mind.bytes }
+    → (IsComing p → IsComing m.phase) → IsIn n (answered m.room m.ctrl s.todo s.mind word)
+turns m n s word p e here same coming =
+    taken m n s word m.phase here refl (subst (IsIn n) (sym same)
+    (stays m n p e (todo_in p m.ctrl m.tally.count m.tally.size) s.mind.bytes refl (λ u. here.counts (coming u))))
+
+-- where a text begins, it is sound
+pub tells : (m n : MonitorState) (text : Text) → n ≡ record m { phase = AwaitingRoom text 0; status = 0 } → IsSound m → 0 < length (text_of text)
+    → IsCounted (AwaitingRoom text 0) m.room m.tally.count m.tally.size → Goes m n
+tells m n text e sound ready counted = subst (Goes m) (sym e) (record {
+  room = refl;
+  ctrl = refl;
+  started = tt;
+  sound = record { size = sound.size; ready = ready; counted = counted; part = sound.part; held_fits = sound.held_fits };
+})
 
 -- Stands, opened: what a start leads to, and what a word leads to
 pub stands-started : (m n : MonitorState) (room ctrl : ℕ) (given : Option (List ℕ)) → Stands m room ctrl given → Goes m n

@@ -1,6 +1,7 @@
 -- Lists of actions that begin with no decision.
-use Rattle.std.proofs.Common.{◌≡◌, ℕ, Bool, true, false, List, [], ◌∷◌, refl}
-use Rattle.std.specs.Prelude.{if◌then◌else◌}
+use Rattle.std.proofs.Common.{◌≡◌, ℕ, Bool, true, false, List, [], ◌∷◌, refl, arith}
+use Rattle.std.proofs.lemmas.Bool.Decides.{nat_tests}
+use Rattle.std.specs.Prelude.{if◌then◌else◌, ◌==◌}
 use Rattle.boot_monitor.specs.Actions.{Action, Await, Save, Report, Get, Ask, Keep, Answer, Fetch, Leave, Again, Writable, Head, Tail, Mind, print, settled}
 
 -- the first action is no decision
@@ -41,3 +42,10 @@ if-true false x y h = cc
 pub if-false : {A : Type 0} (b : Bool) (x y : A) → b ≡ false → (if b then x else y) ≡ y
 if-false true x y h = cc
 if-false false x y h = refl
+
+-- a test for zero
+pub zero-is : (a : ℕ) → a ≡ 0 → (a == 0) ≡ true
+zero-is a h = grind (arith, nat_tests)
+
+pub zero-not : (a : ℕ) → (a ≡ 0 → ⊥) → (a == 0) ≡ false
+zero-not a h = grind (arith, nat_tests)

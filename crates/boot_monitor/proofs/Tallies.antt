@@ -1,7 +1,7 @@
 -- Words of a list that gets one byte more.
 use Rattle.std.proofs.Common.{◌≡◌, ℕ, zero, suc, ◌+◌, ◌-◌, ◌*◌, ◌<◌, ◌≤◌, List, [], ◌∷◌, ◌++◌, length, drop, get_or, refl, sym, ap, ap₂, ◌∙◌, arith}
 use Rattle.std.specs.Prelude.{◌%◌, ◌/◌, ◌^◌, ◌≢◌}
-use Rattle.image_tool.specs.Image.{signature_of, size_of, word_at, word_of, words, wrapping_sum}
+use Rattle.image_tool.specs.Image.{check_of, signature_of, size_of, word_at, word_of, words, wrapping_sum}
 use Rattle.boot_monitor.specs.Actions.{last_word}
 use Rattle.boot_monitor.specs.declared.tally.Tally.{Tally}
 use Rattle.boot_monitor.specs.Tallies.{Counts, left_of, number_of, spread_of}
@@ -180,9 +180,9 @@ fits-part w b n s hw hb hs h3 = go (n % 4) ((n + 1) % 4) (omega arith) (omega (a
     go (suc (suc zero)) l h hl hw hs = rw hl (omega arith)
     go (suc (suc (suc k))) l h hl hw hs = let bad : ⊥ = omega arith in elim bad [ ]
 
--- the sum at the second word, and at the third
-pub sum-none : (ws : List ℕ) (w s : ℕ) → length ws + 1 ≡ 2 → s ≡ wrapping_sum (drop 2 ws) → s ≡ wrapping_sum (drop 2 (ws ++ w ∷ []))
-sum-none [] w s h e = let bad : ⊥ = omega arith in elim bad [ ]
+-- the sum at the first two words, and at the third
+pub sum-none : (ws : List ℕ) (w s : ℕ) → length ws + 1 ≤ 2 → s ≡ wrapping_sum (drop 2 ws) → s ≡ wrapping_sum (drop 2 (ws ++ w ∷ []))
+sum-none [] w s h e = e
 sum-none (x ∷ []) w s h e = e
 sum-none (x ∷ y ∷ ws) w s h e = let bad : ⊥ = omega arith in elim bad [ ]
 
@@ -219,9 +219,27 @@ word-there (suc k) (a ∷ b ∷ c ∷ d ∷ rest) h =
     ∙ word-cons c (d ∷ rest) (suc (4 * k)) ∙ word-cons d rest (4 * k))
     ∙ ap (word_at (a ∷ b ∷ c ∷ d ∷ rest)) e
 
+-- the words from the third on
+words-after : (bytes : List ℕ) → words (drop 8 bytes) ≡ drop 2 (words bytes)
+words-after [] = refl
+words-after (a ∷ []) = refl
+words-after (a ∷ b ∷ []) = refl
+words-after (a ∷ b ∷ c ∷ []) = refl
+words-after (a ∷ b ∷ c ∷ d ∷ []) = refl
+words-after (a ∷ b ∷ c ∷ d ∷ e ∷ []) = refl
+words-after (a ∷ b ∷ c ∷ d ∷ e ∷ f ∷ []) = refl
+words-after (a ∷ b ∷ c ∷ d ∷ e ∷ f ∷ g ∷ []) = refl
+words-after (a ∷ b ∷ c ∷ d ∷ e ∷ f ∷ g ∷ h ∷ rest) = refl
+
 -- what is read out of a tally
 pub signature-is : (t : Tally) (bytes : List ℕ) → Counts t bytes → 4 ≤ t.count → t.signature ≡ signature_of bytes
 signature-is t bytes c h = c.signature ∙ word-there 0 bytes (omega (arith, c.count, h))
 
 pub size-is : (t : Tally) (bytes : List ℕ) → Counts t bytes → 12 ≤ t.count → t.size ≡ size_of bytes
 size-is t bytes c h = c.size ∙ word-there 1 bytes (omega (arith, c.count, h))
+
+pub check-is : (t : Tally) (bytes : List ℕ) → Counts t bytes → 12 ≤ t.count → t.check ≡ check_of bytes
+check-is t bytes c h = c.check ∙ word-there 2 bytes (omega (arith, c.count, h))
+
+pub sum-is : (t : Tally) (bytes : List ℕ) → Counts t bytes → t.sum ≡ wrapping_sum (words (drop 8 bytes))
+sum-is t bytes c = c.sum ∙ ap wrapping_sum (sym (words-after bytes))

@@ -1,9 +1,9 @@
 -- A queue of messages as the places of a link.
-use Rattle.std.proofs.Common.{◌≡◌, ℕ, zero, suc, ◌+◌, ◌<◌, ◌≤◌, List, [], ◌∷◌, ◌++◌, Option, Some, None, refl, ap, sym, ◌∙◌, arith, subst, add-one}
+use Rattle.std.proofs.Common.{◌≡◌, ℕ, zero, suc, ◌+◌, ◌<◌, ◌≤◌, List, [], ◌∷◌, ◌++◌, Option, Some, None, refl, ap, ap₂, sym, ◌∙◌, arith, subst, add-one}
 use Rattle.std.specs.Prelude.{length, ◌==◌, if◌then◌else◌, Bool, true, false}
 use Rattle.std.proofs.lemmas.Bool.Decides.{nat_tests}
 use Rattle.soc_words.specs.Link.{link_first, link_moved}
-use Rattle.delay_line.specs.Queue.{places_of, ArriveIn, empty_link, left_after, arriving_of}
+use Rattle.delay_line.specs.Queue.{Flow, places_of, ArriveIn, empty_link, flowed, left_after, arriving_of}
 use Rattle.delay_line.specs.declared.link.Timed.{Timed}
 
 pub places_of_nothing : {M : Type 0} (now count : ℕ) → places_of {M = M} [] now count ≡ empty_link count
@@ -169,7 +169,7 @@ stays_some now delay q msg l a =
     (pushed (suc now) (now + delay) (now + 1 + delay) (left_after q now) (now + delay) msg (omega arith) (omega arith)
     (left now (now + delay) q (omega (arith, l)) a))
 
-pub moved_none : {M : Type 0} (now delay : ℕ) (q : List (Timed M)) → 1 ≤ delay → ArriveIn now (now + delay) q
+moved_none : {M : Type 0} (now delay : ℕ) (q : List (Timed M)) → 1 ≤ delay → ArriveIn now (now + delay) q
     → places_of (left_after q now) (now + 1) delay ≡ link_moved (places_of q now delay) None
 moved_none now zero q l a = absurd (omega (arith, l))
 moved_none now (suc count) q l a =
@@ -178,7 +178,7 @@ moved_none now (suc count) q l a =
     ap (λ from. places_of (left_after q now) from (suc count)) (add-one now)
     ∙ more_none count (suc now) (left_after q now) inside ∙ sym (left_places now count q None)
 
-pub moved_some : {M : Type 0} (now delay : ℕ) (q : List (Timed M)) (msg : M) → 1 ≤ delay → ArriveIn now (now + delay) q
+moved_some : {M : Type 0} (now delay : ℕ) (q : List (Timed M)) (msg : M) → 1 ≤ delay → ArriveIn now (now + delay) q
     → places_of (left_after q now ++ record { at = now + delay; msg = msg } ∷ []) (now + 1) delay ≡ link_moved (places_of q now delay) (Some msg)
 moved_some now zero q msg l a = absurd (omega (arith, l))
 moved_some now (suc count) q msg l a =
@@ -186,6 +186,30 @@ moved_some now (suc count) q msg l a =
     = subst (λ to. ArriveIn (suc now) to (left_after q now)) (omega arith) (left now (now + suc count) q (omega arith) a) in
     ap (λ from. places_of (left_after q now ++ record { at = now + suc count; msg = msg } ∷ []) from (suc count)) (add-one now)
     ∙ more_some count (suc now) (left_after q now) (now + suc count) msg (omega arith) inside ∙ sym (left_places now count q (Some msg))
+
+-- a message is put behind what is left
+pub put_behind : {M : Type 0} (now d delay : ℕ) (new mid old : List (Timed M)) (msg : M) → new ≡ mid ++ record { at = now + d; msg = msg } ∷ [] → mid ≡ old → d ≡ delay
+    → new ≡ old ++ record { at = now + delay; msg = msg } ∷ []
+put_behind {M = M} now d delay new mid old msg e f h = e ∙ ap₂ (λ (queue : List (Timed M)) (k : ℕ). queue ++ record { at = now + k; msg = msg } ∷ []) f h
+
+-- the link after a cycle
+pub stepped_some : {M : Type 0} (now delay : ℕ) (q later : List (Timed M)) (f : Flow M) (sent : Option M) (msg : M) → 1 ≤ delay → ArriveIn now (now + delay) q
+    → (let link : Flow M = record { cycle = now; places = places_of q now delay } in link ≡ f) → sent ≡ Some msg
+    → later ≡ left_after q now ++ record { at = now + delay; msg = msg } ∷ []
+    → (let link : Flow M = record { cycle = now + 1; places = places_of later (now + 1) delay } in link ≡ flowed f sent)
+stepped_some {M = M} now delay q later f sent msg l a v s e =
+    ap₂ (λ (cycle : ℕ) (places : List (Option M)). record { cycle = cycle; places = places }) (add-one now)
+    (ap (λ q. places_of q (now + 1) delay) e ∙ moved_some now delay q msg l a ∙ ap (link_moved (places_of q now delay)) (sym s))
+    ∙ ap (λ f. flowed f sent) v
+
+pub stepped_none : {M : Type 0} (now delay : ℕ) (q later : List (Timed M)) (f : Flow M) (sent : Option M) → 1 ≤ delay → ArriveIn now (now + delay) q
+    → (let link : Flow M = record { cycle = now; places = places_of q now delay } in link ≡ f) → sent ≡ None
+    → later ≡ left_after q now
+    → (let link : Flow M = record { cycle = now + 1; places = places_of later (now + 1) delay } in link ≡ flowed f sent)
+stepped_none {M = M} now delay q later f sent l a v s e =
+    ap₂ (λ (cycle : ℕ) (places : List (Option M)). record { cycle = cycle; places = places }) (add-one now)
+    (ap (λ q. places_of q (now + 1) delay) e ∙ moved_none now delay q l a ∙ ap (link_moved (places_of q now delay)) (sym s))
+    ∙ ap (λ f. flowed f sent) v
 
 pub arriving_first : {M : Type 0} (now delay : ℕ) (q : List (Timed M)) → 1 ≤ delay → arriving_of q now ≡ link_first (places_of q now delay)
 arriving_first now zero q l = absurd (omega (arith, l))

@@ -99,7 +99,6 @@ impl<M: Copy> DelayLine<M> {
 
     /// Ends the cycle, in which `sent` was sent. It arrives as many cycles later as the link has places, which is its delay.
     #[inline(always)]
-    #[tactic(auto, using(crate::proofs::Places::stays_some, crate::proofs::Places::stays_none, crate::proofs::Places::moved_some, crate::proofs::Places::moved_none, crate::proofs::Places::room, crate::proofs::Arrival::same_places, crate::proofs::Arrival::arrives_on_time))]
     pub fn step(&mut self, sent: Option<M>)
         requires { self.old.cycle + 4096 < 2 ^ 64 }
         ensures link { self.new ≡ flowed self.old sent }

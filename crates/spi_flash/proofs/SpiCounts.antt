@@ -10,7 +10,7 @@ use Rattle.chip_base.specs.declared.message.Down.TheVariants.{Reset, Set}
 use Rattle.spi_flash.specs.declared.transfer.Entry.{Entry}
 use Rattle.spi_flash.specs.declared.transfer.Entry.TheVariants.{Byte, Select}
 use Rattle.spi_flash.specs.Flash.{flash_cycle}
-use Rattle.spi_flash.specs.SpiCycle.{SpiState, engine, engine_at, exchanged, queued, running, selecting, set_in, spi_cycle}
+use Rattle.spi_flash.specs.SpiCycle.{SpiState, engine, engine_at, exchanged, queued, reset, running, selecting, set_in, spi_cycle}
 use Rattle.spi_flash.specs.SpiCounts.{CountsQueue, KeepsEntries, entries_in}
 
 -- what the engine gives of a queue
@@ -18,22 +18,23 @@ record Gives (queue : List Entry) (g : Given SpiState) : Type 0 where
   rest : g.unit.queue ≡ drop (credit_in g.up) queue
   none_done : done_in g.up ≡ 0
   one_at_most : credit_in g.up ≤ length queue
+  silent : g.event ≡ None
 
 gives_if : (queue : List Entry) (b : Bool) (g h : Given SpiState) → Gives queue g → Gives queue h → Gives queue (if b then g else h)
 gives_if queue true g h a b = a
 gives_if queue false g h a b = b
 
 gives_quiet : (s : SpiState) → Gives s.queue (quiet s)
-gives_quiet s = record { rest = refl; none_done = refl; one_at_most = omega arith }
+gives_quiet s = record { rest = refl; none_done = refl; one_at_most = omega arith; silent = refl }
 
 gives_exchanged : (s : SpiState) (first : Entry) (byte : ℕ) (rest : List Entry) (left : ℕ) → Gives (first ∷ rest) (exchanged (record s { queue = first ∷ rest }) byte rest left)
 gives_exchanged s first byte rest left =
-    gives_if (first ∷ rest) (left == 1) _ _ (record { rest = refl; none_done = refl; one_at_most = omega arith }) (record { rest = refl; none_done = refl; one_at_most = omega arith })
+    gives_if (first ∷ rest) (left == 1) _ _ (record { rest = refl; none_done = refl; one_at_most = omega arith; silent = refl }) (record { rest = refl; none_done = refl; one_at_most = omega arith; silent = refl })
 
 gives_selecting : (s : SpiState) (on : Bool) (rest : List Entry) → Gives (Select on ∷ rest) (selecting (record s { queue = Select on ∷ rest }) on rest)
 gives_selecting s on rest =
-    gives_if (Select on ∷ rest) (s.left == 0 && s.enabled) _ _ (record { rest = refl; none_done = refl; one_at_most = omega arith })
-    (record { rest = refl; none_done = refl; one_at_most = omega arith })
+    gives_if (Select on ∷ rest) (s.left == 0 && s.enabled) _ _ (record { rest = refl; none_done = refl; one_at_most = omega arith; silent = refl })
+    (record { rest = refl; none_done = refl; one_at_most = omega arith; silent = refl })
 
 gives_running : (s : SpiState) (byte : ℕ) (rest : List Entry) → Gives (Byte byte ∷ rest) (running (record s { queue = Byte byte ∷ rest }) byte rest)
 gives_running s byte rest =
@@ -107,6 +108,13 @@ answers_in s now None = (engine_gives s).none_done
 answers_in s now (Some Reset) = refl
 answers_in s now (Some (Set reg word)) = (engine_gives (set_in s reg word)).none_done
 
+-- there are no events
+pub silent_in : (s : SpiState) (now : ℕ) (down : Option Down) → None ≡ (spi_cycle s now down).event
+unfolding spi_cycle
+silent_in s now None = sym (engine_gives s).silent
+silent_in s now (Some Reset) = refl
+silent_in s now (Some (Set reg word)) = sym (engine_gives (set_in s reg word)).silent
+
 counted : (queue rest : List Entry) (credit : ℕ) → rest ≡ drop credit queue → credit ≤ length queue → length rest + credit ≡ length queue
 counted queue rest credit e l = let n : length rest ≡ length queue - credit = ap length e ∙ length-drop credit queue in omega (arith, n, l)
 
@@ -129,8 +137,25 @@ counts_queue s now (Some (Set reg word)) = record {
   answers = answers_in s now (Some (Set reg word));
 }
 
--- the same for what the code of a cycle leaves, where a register was set
-pub counts_set : (s : SpiState) (reg word : ℕ) (down : Option Down) (set new : SpiState) (up : Option Up) → down ≡ Some (Set reg word)
-    → set ≡ set_in s reg word → new ≡ (engine set).unit → up ≡ (engine set).up → CountsQueue s down new up
-unfolding spi_cycle
-counts_set s reg word down set new up d e u p = rw (p, u, e, d) (counts_queue s 0 (Some (Set reg word)))
+-- the same by what a cycle gives
+pub counts_as : (s : SpiState) (now : ℕ) (down : Option Down) (new : SpiState) (up : Option Up) → new ≡ (spi_cycle s now down).unit → up ≡ (spi_cycle s now down).up
+    → CountsQueue s down new up
+counts_as s now down new up e f = subst (λ x. CountsQueue s down x up) (sym e) (subst (λ x. CountsQueue s down (spi_cycle s now down).unit x) (sym f) (counts_queue s now down))
+
+pub keeps_as : (s : SpiState) (now : ℕ) (down : Option Down) (new : SpiState) (up : Option Up) → new ≡ (spi_cycle s now down).unit → up ≡ (spi_cycle s now down).up
+    → KeepsEntries s down new up
+keeps_as s now down new up e f = subst (λ x. KeepsEntries s down x up) (sym e) (subst (λ x. KeepsEntries s down (spi_cycle s now down).unit x) (sym f) (keeps_entries s now down))
+
+-- what a cycle gives, by its message
+module _ (s : SpiState) (now : ℕ) (down : Option Down) where
+  pub given_none : down ≡ None → engine s ≡ spi_cycle s now down
+  unfolding spi_cycle
+  given_none e = ap (spi_cycle s now) (sym e)
+
+  pub given_reset : down ≡ Some Reset → reset s ≡ spi_cycle s now down
+  unfolding spi_cycle
+  given_reset e = ap (spi_cycle s now) (sym e)
+
+  pub given_set : (set : SpiState) (reg word : ℕ) → down ≡ Some (Set reg word) → set ≡ set_in s reg word → engine set ≡ spi_cycle s now down
+  unfolding spi_cycle
+  given_set set reg word e h = ap engine h ∙ ap (spi_cycle s now) (sym e)

@@ -8,7 +8,7 @@ use Rattle.chip_base.specs.declared.message.Up.{Up}
 use Rattle.spi_flash.specs.declared.transfer.Entry.{Entry}
 use Rattle.spi_flash.specs.declared.transfer.Entry.TheVariants.{Byte, Select}
 use Rattle.spi_flash.specs.Flash.{FlashState, flash_cycle}
-use Rattle.spi_flash.specs.SpiCycle.{SpiState, engine, engine_at, exchanged, queued, running, selecting, set_in, spi_cycle}
+use Rattle.spi_flash.specs.SpiCycle.{SpiState, engine_at, exchanged, queued, running, selecting, set_in, spi_cycle}
 use Rattle.spi_flash.specs.UnitFlash.{StepsFlash, entry_done}
 
 -- what the engine does to a flash, by the queue
@@ -83,9 +83,3 @@ steps_flash s (Some (Set reg word)) now =
 -- the same by what a cycle gives
 pub steps_as : (s : SpiState) (now : ℕ) (message : Option Down) (new : SpiState) (up : Option Up) → new ≡ (spi_cycle s now message).unit → up ≡ (spi_cycle s now message).up → StepsFlash s message new up
 steps_as s now message new up e f = subst (λ x. StepsFlash s message x up) (sym e) (subst (λ x. StepsFlash s message (spi_cycle s now message).unit x) (sym f) (steps_flash s message now))
-
--- the same where a register is stored to
-pub steps_set : (s : SpiState) (reg word : ℕ) (message : Option Down) (set new : SpiState) (up : Option Up) → message ≡ Some (Set reg word) → set ≡ set_in s reg word
-    → new ≡ (engine set).unit → up ≡ (engine set).up → StepsFlash s message new up
-unfolding spi_cycle
-steps_set s reg word message set new up d e u p = rw (p, u, e, d) (steps_flash s (Some (Set reg word)) 0)

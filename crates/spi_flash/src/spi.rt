@@ -226,7 +226,6 @@ impl Spi {
     /// In the cycle in which an entry is done its credit goes up, and of a byte the flash's answer as a word beside it. In the cycle
     /// of a Reset only its answer, done, goes up. There are no events.
     #[inline(always)]
-    #[tactic(auto, unfolding(crate::specs::SpiCycle::spi_cycle), using(crate::proofs::SpiCounts::counts_queue, crate::proofs::SpiCounts::keeps_entries, crate::proofs::UnitFlash::steps_as))]
     pub fn cycle(&mut self, now: Cycle, down: Option<Down>) -> UnitOut
         ensures unit { self.new ≡ (spi_cycle self.old now down).unit }
         ensures up { result.up ≡ (spi_cycle self.old now down).up }

@@ -4,13 +4,14 @@ use Rattle.std.specs.Prelude.{if◌then◌else◌, nat_lt}
 use Rattle.std.proofs.lemmas.Bool.{eqb-true, false≢true}
 use Rattle.std.proofs.lemmas.Bool.Decides.{nat_tests}
 use Rattle.bench_parts.specs.Behave.{Behaviour}
-use Rattle.chip_base.specs.Messages.{at_either_data, credit_in, entry_in, reset_in}
+use Rattle.chip_base.specs.Given.{Given}
+use Rattle.chip_base.specs.Messages.{at_either_data, credit_in, done_up, entry_in, reset_in}
 use Rattle.chip_base.specs.declared.message.Down.{Down}
 use Rattle.chip_base.specs.declared.message.Down.TheVariants.{Reset, Set}
 use Rattle.stream_link.proofs.Works.{worked_works}
 use Rattle.stream_link.specs.Laws.{CountsWaiting, PassesAtOnce, PassesInOrder, enabled_with, waiting_with, words_in}
 use Rattle.stream_link.specs.StreamCycle.{set_in, stream_cycle, worked}
-use Rattle.stream_link.specs.StreamState.{QueueState, StreamState}
+use Rattle.stream_link.specs.StreamState.{QueueState, StreamState, queue_reset}
 use Rattle.stream_link.specs.declared.word.StreamWord.{StreamWord}
 
 -- the tests on a register, one after another
@@ -184,3 +185,17 @@ unfolding stream_cycle
 counts_waiting part s now None = counts part s now None refl
 counts_waiting part s now (Some Reset) = record { entries = λ r l. absurd (omega (arith, r)); after_reset = λ r. refl; answers = refl }
 counts_waiting part s now (Some (Set reg word)) = counts part s now (Some (Set reg word)) refl
+
+-- what a cycle gives, by its message
+module _ (part : Option Behaviour) (s : StreamState) (now : ℕ) (down : Option Down) where
+  pub given_none : down ≡ None → worked part s now ≡ stream_cycle part s now down
+  unfolding stream_cycle
+  given_none e = ap (stream_cycle part s now) (sym e)
+
+  pub given_reset : down ≡ Some Reset → (let given : Given StreamState = record { unit = record s { queue = queue_reset }; up = Some done_up; event = None } in given ≡ stream_cycle part s now down)
+  unfolding stream_cycle
+  given_reset e = ap (stream_cycle part s now) (sym e)
+
+  pub given_set : (reg word : ℕ) → down ≡ Some (Set reg word) → worked part (record s { queue = set_in s.queue reg word }) now ≡ stream_cycle part s now down
+  unfolding stream_cycle
+  given_set reg word e = ap (stream_cycle part s now) (sym e)

@@ -133,7 +133,6 @@ impl Stream {
     /// and no gap is left. Gives what leaves the unit: the event of that word, and with its credit the word that the part replied, if
     /// it did. In the cycle of a Reset only its answer, done, goes up.
     #[inline(always)]
-    #[tactic(auto, unfolding(crate::specs::StreamCycle::stream_cycle), using(crate::proofs::Order::passes_in_order, crate::proofs::Order::passes_at_once, crate::proofs::Order::counts_waiting))]
     pub fn cycle(&mut self, now: Cycle, down: Option<Down>) -> UnitOut
         ensures stands { (part : Option Behaviour) (s : StreamState) → ⟦<Stream as StreamStanding>⟧.stands part self.old s
             → ⟦<Stream as StreamStanding>⟧.stands part self.new (stream_cycle part s now down).unit

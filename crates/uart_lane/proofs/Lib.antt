@@ -8,3 +8,4 @@ pub mod Receipt
 pub mod Received
 pub mod Script
 pub mod Idle
+pub mod Cycles

@@ -226,7 +226,6 @@ impl Uart {
     /// value. In the last cycle of a frame that is received, its byte goes up as a word, in the same message where a credit goes
     /// up too. In the cycle of a Reset only its answer, done, goes up, and there is no event.
     #[inline(always)]
-    #[tactic(auto, unfolding(crate::specs::Cycle::uart_cycle))]
     pub fn cycle(&mut self, now: Cycle, down: Option<Down>) -> UnitOut
         ensures unit { self.new ≡ (uart_cycle self.old now down).unit }
         ensures up { result.up ≡ (uart_cycle self.old now down).up }
