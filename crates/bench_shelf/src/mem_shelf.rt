@@ -97,6 +97,21 @@ fn put(
     Ok(())
 }
 
+/// A copy of these bytes, if there are at most `limit`.
+fn copied(alloc: Global, bytes: &[u8], limit: u32) -> Result<Vec<u8>, ShelfFault>
+    ensures value { IfOk result (λ copy. (copy.items ≡ bytes.now) × (vec_len copy ≤ limit)) }
+    ensures never_failed { IsErrOf result ShelfFault.Failed → ⊥ }
+    ensures long { (n : ℕ) → IsErrOf result (ShelfFault.Long n) → (n ≡ limit) × (limit < length bytes.now) }
+{
+    if bytes.len() > limit as usize {
+        return Err(ShelfFault::Long { limit });
+    }
+    match Vec::from_slice(alloc, bytes) {
+        Ok(copy) => Ok(copy),
+        Err(_) => Err(ShelfFault::Memory),
+    }
+}
+
 impl Shelf for MemShelf {
     ghost held = { λ s. record {
       discloses = true;
@@ -129,13 +144,7 @@ impl Shelf for MemShelf {
             self.read_faults = self.read_faults.saturating_add(1);
             return Err(ShelfFault::Failed);
         }
-        if bytes.len() > limit as usize {
-            return Err(ShelfFault::Long { limit });
-        }
-        match Vec::from_slice(alloc, bytes) {
-            Ok(copy) => Ok(copy),
-            Err(_) => Err(ShelfFault::Memory),
-        }
+        copied(alloc, bytes, limit)
     }
 
     fn write(&mut self, name: &str, bytes: &[u8]) -> Result<(), ShelfFault>

@@ -6,6 +6,15 @@ use crate::ImageFault;
 use crate::judging::{SIGNATURE, is_allowed, sum};
 use std::alloc::{AllocError, Global};
 
+/// The length in bytes of a payload with zero bytes up to the next multiple of four.
+fn padded_len(payload: &[u8]) -> u32
+    requires { length payload.now < 2 ^ 31 }
+    ensures value { result ≡ length (padded payload.now) }
+    ensures whole { result % 4 ≡ 0 }
+{
+    (payload.len() as u32).next_multiple_of(4)
+}
+
 /// A payload with zero bytes up to `len` bytes, the next multiple of four.
 fn padded(alloc: Global, payload: &[u8], len: u32) -> Result<Vec<u8>, AllocError>
     requires { len ≡ length (padded payload.now) }
@@ -41,7 +50,7 @@ pub fn wrap(alloc: Global, payload: &[u8], room: u32) -> Result<Vec<u8>, ImageFa
     ensures size { IsErrOf result (ImageFault.Size (length (padded payload.now))) ↔ ((length (padded payload.now) ≡ 0) ⊎ (room < length (padded payload.now))) }
     ensures no_other { IfErr result (λ fault. (fault ≡ ImageFault.Size (length (padded payload.now))) ⊎ (fault ≡ ImageFault.Memory)) }
 {
-    let len = (payload.len() as u32).next_multiple_of(4);
+    let len = padded_len(payload);
     if !is_allowed(room, len) {
         return Err(ImageFault::Size { found: len });
     }
