@@ -2,7 +2,7 @@
 use Rattle.std.proofs.Common.{◌≡◌, ℕ, zero, suc, ◌+◌, ◌<◌, ◌≤◌, List, [], ◌∷◌, length, drop, get_or, None, refl, arith, add-one}
 use Rattle.std.specs.Option.{option_or}
 use Rattle.bench_debug.specs.Stops.{first_met, met_by}
-use Rattle.bench_debug.specs.declared.command.Command.{Command}
+use Rattle.command_text.specs.declared.command.Command.{Command}
 
 -- one more command
 pub met_next : (earlier : List Command) (i : ℕ) (d : Command) (store : ℕ × ℕ) → i < length earlier

@@ -8,7 +8,7 @@ use Rattle.chip_whole.specs.Chip.{Board, ChipState, after}
 use Rattle.bench_debug.specs.FirstStop.{EndsBy, IsFirstStop}
 use Rattle.bench_debug.specs.Session.{first_stop}
 use Rattle.bench_debug.specs.Stops.{Found, first_met, found_or, is_at_break, search, stop_at_break, stop_at_watch, stop_in}
-use Rattle.bench_debug.specs.declared.command.Command.{Command}
+use Rattle.command_text.specs.declared.command.Command.{Command}
 use Rattle.bench_debug.specs.declared.stop.Stop.{Stop}
 use Rattle.bench_debug.specs.declared.stop.Stop.TheVariants as stop
 use Rattle.bench_debug.proofs.Searches.{search_more, search_zero}

@@ -1,6 +1,5 @@
 pub mod FirstMet
 pub mod FirstStops
 pub mod Going
-pub mod LinesLeft
 pub mod Searches
 pub mod Sessions

@@ -7,8 +7,8 @@ use Rattle.chip_whole.specs.Chip.{Board, ChipState, after}
 use Rattle.bench_debug.specs.Running.{adds_stop}
 use Rattle.bench_debug.specs.Session.{first_stop}
 use Rattle.bench_debug.specs.Stops.{first_met, found_or, is_break_at, is_ready, search, stop_at_break, stop_at_watch, stop_in}
-use Rattle.bench_debug.specs.declared.command.Command.{Command}
-use Rattle.bench_debug.specs.declared.command.Command.TheVariants as command
+use Rattle.command_text.specs.declared.command.Command.{Command}
+use Rattle.command_text.specs.declared.command.Command.TheVariants as command
 use Rattle.bench_debug.specs.declared.stop.Stop.{Stop}
 use Rattle.bench_debug.specs.declared.stop.Stop.TheVariants as stop
 

@@ -7,7 +7,7 @@ use Rattle.bench_shelf.specs.Sink.{Appending}
 use Rattle.bench_shelf.proofs.Writing.{writes_exit, writes_then}
 use Rattle.chip_whole.specs.Chip.{Board, ChipState}
 use Rattle.bench_debug.specs.Session.{cycles_by, done_by, text_by}
-use Rattle.bench_debug.specs.declared.command.Command.{Command}
+use Rattle.command_text.specs.declared.command.Command.{Command}
 
 -- the count after some commands and then others
 cycles_join : (board : Board) (s : ChipState) (bound : ℕ) (earlier : List Command) (n : ℕ) (xs ys : List Command)

@@ -2,7 +2,7 @@
 use Rattle.std.specs.Prelude.{◌≡◌, ℕ, ◌<◌, ◌≤◌, List, Some, None}
 use Rattle.chip_whole.specs.Chip.{Board, ChipState, after}
 use Rattle.bench_debug.specs.Stops.{Found, stop_in}
-use Rattle.bench_debug.specs.declared.command.Command.{Command}
+use Rattle.command_text.specs.declared.command.Command.{Command}
 use Rattle.bench_debug.specs.declared.stop.Stop.{Stop}
 use Rattle.bench_debug.specs.declared.stop.Stop.TheVariants as stop
 

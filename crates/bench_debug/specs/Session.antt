@@ -8,8 +8,8 @@ use Rattle.text_fields.specs.Fields.{Text}
 use Rattle.trace_text.specs.Instruction.{last_digits}
 use Rattle.trace_text.specs.Lines.{end_text, hart_lines_text}
 use Rattle.bench_debug.specs.Stops.{Found, search}
-use Rattle.bench_debug.specs.declared.command.Command.{Command}
-use Rattle.bench_debug.specs.declared.command.Command.TheVariants as command
+use Rattle.command_text.specs.declared.command.Command.{Command}
+use Rattle.command_text.specs.declared.command.Command.TheVariants as command
 use Rattle.bench_debug.specs.declared.stop.Stop.{Stop}
 use Rattle.bench_debug.specs.declared.stop.Stop.TheVariants as stop
 

@@ -7,8 +7,8 @@ use Rattle.chip_base.specs.declared.hart.PhaseWord.{PhaseWord}
 use Rattle.chip_base.specs.declared.hart.PhaseWord.TheVariants.{Ready}
 use Rattle.chip_hub.specs.Views.{hart_view}
 use Rattle.chip_whole.specs.Chip.{Board, ChipState, after}
-use Rattle.bench_debug.specs.declared.command.Command.{Command}
-use Rattle.bench_debug.specs.declared.command.Command.TheVariants as command
+use Rattle.command_text.specs.declared.command.Command.{Command}
+use Rattle.command_text.specs.declared.command.Command.TheVariants as command
 use Rattle.bench_debug.specs.declared.stop.Stop.{Stop}
 use Rattle.bench_debug.specs.declared.stop.Stop.TheVariants as stop
 

@@ -1,16 +1,11 @@
-//! The debugger: its command file, and a session on a chip.
+//! The debugger: a session on a chip by the commands of a file.
 #![tactic(auto)]
 
-mod arguments;
-pub mod command;
-mod command_line;
-pub mod commands;
 pub mod laws;
 mod lines;
 mod session;
 mod stop;
 mod stops;
 
-pub use command::Command;
-pub use commands::{CommandFault, Commands, read_commands};
+pub use command_text::{Command, CommandFault, Commands, read_commands};
 pub use session::debug;

@@ -5,11 +5,11 @@ ghost use Rattle.bench_debug.specs.Running.{adds_stop};
 ghost use Rattle.bench_debug.specs.Stops.{first_met, is_at_break, is_break_at, is_ready, meets, met_by, stop_at_break, stop_at_watch, stop_in};
 ghost use Rattle.chip_whole.specs.Stands.{ForEach};
 
-use crate::command::Command;
 use crate::stop::Stop;
 use chip_base::{HartView, PhaseWord};
 use chip_net::Chip;
 use chip_whole::Standing;
+use command_text::Command;
 
 /// Whether a command adds a break of a hart at an address.
 fn is_break_at(command: &Command, hart: u8, pc: u32) -> bool

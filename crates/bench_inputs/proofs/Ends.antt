@@ -1,8 +1,8 @@
 -- What the readings of a job may come to.
 use Rattle.std.proofs.Common.{◌≡◌, ℕ, Bool, true, false, cond, List, Option, Some, None, Result, Ok, Err, refl}
 use Rattle.std.specs.Str.{is_utf8}
-use Rattle.bench_debug.specs.CommandFile.{commands_of}
-use Rattle.bench_debug.specs.declared.command.Command.{Command}
+use Rattle.command_text.specs.CommandFile.{commands_of}
+use Rattle.command_text.specs.declared.command.Command.{Command}
 use Rattle.bench_plan.proofs.Ends.{ends_then}
 use Rattle.bench_plan.specs.Ends.{Ends, EndsBoth}
 use Rattle.bench_plan.specs.Readings.{Refusal, judged}

@@ -1,8 +1,8 @@
 -- Definition: what the files of a job mean, and what is read for each.
 use Rattle.std.specs.Prelude.{◌==◌, ℕ, List, length, Option, Some, None, Result, Ok, Err, nat_lt, if◌then◌else◌}
 use Rattle.std.specs.Str.{is_utf8}
-use Rattle.bench_debug.specs.CommandFile.{commands_of}
-use Rattle.bench_debug.specs.declared.command.Command.{Command}
+use Rattle.command_text.specs.CommandFile.{commands_of}
+use Rattle.command_text.specs.declared.command.Command.{Command}
 use Rattle.bench_plan.specs.Readings.{Refusal, Reading, asking, followed, gives, judged}
 use Rattle.chip_base.specs.Settings.{Values, standard}
 use Rattle.chip_base.specs.declared.boot.Boot.{Boot}

@@ -6,10 +6,10 @@ ghost use Rattle.bench_plan.specs.Steps.{Reads, mapped};
 ghost use Rattle.script_text.specs.ScriptFile.{empty};
 
 use crate::judge::{judge_chip, judge_commands, judge_image, judge_script, wrap_payload};
-use bench_debug::Commands;
 use bench_plan::{Stop, fetch};
 use bench_shelf::Shelf;
 use chip_base::{Boot, Pins, Script, Setup, Steps0};
+use command_text::Commands;
 use std::alloc::Global;
 
 /// The settings of the chip: those of the file of this name, of at most 65,536 bytes, or the standard ones where none is named.

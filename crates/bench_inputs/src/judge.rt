@@ -7,9 +7,9 @@ ghost use Rattle.bench_inputs.specs.Lines.{toml_refusal};
 ghost use Rattle.bench_plan.specs.Steps.{IsRefusal, Judges, mapped};
 
 use crate::lines::{command_refused, image_refused, line_refused, range_refused};
-use bench_debug::{CommandFault, Commands, read_commands};
 use bench_plan::{Stop, refused};
 use chip_base::{Boot, Script, Setup};
+use command_text::{CommandFault, Commands, read_commands};
 use image_tool::{ImageFault, check, wrap};
 use script_text::{ScriptKind, SetupFault, read_chip, read_script};
 use std::alloc::Global;

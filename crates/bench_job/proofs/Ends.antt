@@ -2,7 +2,7 @@
 use Rattle.std.proofs.Common.{◌≡◌, ◌≢◌, ℕ, arith, inl, inr, Bool, true, false, List, Option, Some, None, Result, Ok, Err, refl, ap, sym, subst, ◌∙◌}
 use Rattle.std.specs.Prelude.{◌⊎◌, ◌==◌, IsTrue}
 use Rattle.std.proofs.lemmas.Bool.Decides.{Decides-eqb}
-use Rattle.bench_debug.specs.declared.command.Command.{Command}
+use Rattle.command_text.specs.declared.command.Command.{Command}
 use Rattle.bench_inputs.specs.Inputs.{boot_fault, commands_reading, image_reading, imem_step, payload_fault, room_reading, settings_reading, script_reading, wrapped_reading}
 use Rattle.bench_inputs.specs.Lines.{image_refusal}
 use Rattle.bench_inputs.proofs.Ends.{Any, HasStatus, commands_ends, commands_refusal, file_refusal, image_ends, room_ends, script_ends, settings_ends, wrapped_ends}

@@ -1,7 +1,7 @@
 -- Definition: what is read for a job, and what it is answered.
 use Rattle.std.specs.Prelude.{ℕ, List, ◌++◌, length, drop, Option, Some, None, codes, decimal, option_map}
 use Rattle.bench_debug.specs.Session.{debug_text}
-use Rattle.bench_debug.specs.declared.command.Command.{Command}
+use Rattle.command_text.specs.declared.command.Command.{Command}
 use Rattle.bench_demo.specs.Demo.{demo_text}
 use Rattle.bench_inputs.specs.Inputs.{commands_reading, image_reading, room_reading, script_reading, settings_reading, wrapped_reading}
 use Rattle.bench_parts.specs.Attached.{HandedPart, attached}

@@ -1,6 +1,6 @@
 -- Definition: the statuses of a call, and what they say of its files.
 use Rattle.std.specs.Prelude.{◌≡◌, ℕ, ◌⊎◌, List, [], Option, None, Some, Ok, Err}
-use Rattle.bench_debug.specs.CommandFile.{commands_of}
+use Rattle.command_text.specs.CommandFile.{commands_of}
 use Rattle.bench_inputs.specs.Inputs.{boot_fault, imem_step, payload_fault, room_reading, settings_reading}
 use Rattle.bench_inputs.specs.Lines.{command_text, image_fault_text}
 use Rattle.bench_plan.specs.Calls.{Call, WritesText}

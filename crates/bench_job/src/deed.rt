@@ -8,13 +8,13 @@ ghost use Rattle.bench_job.specs.Plans.{checking_plan, debug_plan, done_of, job_
 use crate::files::read_power_on;
 use crate::image_line::image_line;
 use crate::power_on::PowerOn;
-use bench_debug::Commands;
 use bench_inputs::{read_commands_file, read_image, read_payload, read_room};
 use bench_parts::NamedPart;
 use bench_plan::{Stop, refused};
 use bench_shelf::Shelf;
 use bench_words::{CheckJob, DebugJob, ImageJob, Job, RunJob, read_job};
 use chip_base::{Boot, Groups, NoMemory};
+use command_text::Commands;
 use std::alloc::Global;
 use text_line::Line;
 

@@ -5,11 +5,12 @@ ghost use Rattle.bench_job.specs.Plans.{power_on_view};
 ghost use Rattle.bench_shelf.specs.Sink.{Writes};
 
 use crate::power_on::PowerOn;
-use bench_debug::{Commands, debug};
+use bench_debug::debug;
 use bench_parts::Part;
 use bench_shelf::{Sink, SinkFault};
 use chip_base::Groups;
 use chip_net::Chip;
+use command_text::Commands;
 use std::alloc::Global;
 use std::thread::Threads;
 

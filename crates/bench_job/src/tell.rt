@@ -7,13 +7,13 @@ ghost use Rattle.bench_job.specs.Plans.{demo_done, done_of, power_on_view, repor
 use crate::deed::Deed;
 use crate::power_on::PowerOn;
 use crate::session::debug_run;
-use bench_debug::Commands;
 use bench_demo::put_demo;
 use bench_parts::{NamedPart, Part, attach};
 use bench_plan::{made, said};
 use bench_report::report_run;
 use bench_shelf::{Shelf, Sink};
 use chip_base::Groups;
+use command_text::Commands;
 use std::alloc::Global;
 use std::thread::Threads;
 

@@ -7,6 +7,8 @@ mod board;
 #[cfg(test)]
 mod bus;
 #[cfg(test)]
+mod commands;
+#[cfg(test)]
 mod csrs;
 #[cfg(test)]
 mod decoding;

@@ -31,7 +31,7 @@ use std::thread::Threads;
 ///   `--trace COUNT` (at most 1,000) the report tells the last COUNT issues of the harts, or all where there are fewer.
 /// - The words `debug IMAGE CYCLES COMMANDS`, with the same options but `--trace`, do what the lines of the file COMMANDS say on the same
 ///   chip, which then runs for at most CYCLES cycles, and write the session's lines to the sink in place of a report. The lines of COMMANDS
-///   are those that `read_commands` of bench_debug takes.
+///   are those that `read_commands` of command_text takes.
 /// - The words `demo NUMBER` upload an image that is made from NUMBER (0 to 4,294,967,295) through the boot monitor, run it, and write
 ///   what came of it. `--groups GROUPS` is as above. No file is read, and the status is 0, 7 or 9.
 /// - The words `image PAYLOAD OUT` make the image of the bytes of the file PAYLOAD, with zero bytes up to a multiple of four, in the

@@ -1,7 +1,7 @@
 //! The arguments of a command.
 ghost use Rattle.std.specs.Prelude.{◌≡◌, ◌≤◌, ◌<◌, ◌%◌, IfSome, option_map};
 ghost use Rattle.text_fields.specs.Fields.{fields};
-ghost use Rattle.bench_debug.specs.CommandLine.{address_of, count_of, csr_address_of, cycles_of, hart_of, only, only_two, word_address_of};
+ghost use Rattle.command_text.specs.CommandLine.{address_of, count_of, csr_address_of, cycles_of, hart_of, only, only_two, word_address_of};
 
 use text_fields::fields::cut_field;
 use text_fields::numbers::{hex_number, number};

@@ -1,12 +1,12 @@
 -- A definition, for the contracts of code: what the reader of command files answers.
 use Rattle.std.specs.Prelude.{◌≡◌, ℕ, ◌^◌, ◌&&◌, Bool, true, false, List, Result, Ok, Err, nat_le, nat_lt}
 use Rattle.text_fields.specs.Fields.{Text}
-use Rattle.bench_debug.specs.CommandFile.{is_accepted}
-use Rattle.bench_debug.specs.CommandLine.{is_aligned}
-use Rattle.bench_debug.specs.declared.command.Command.{Command}
-use Rattle.bench_debug.specs.declared.command.Command.TheVariants as command
-use Rattle.bench_debug.specs.declared.commands.CommandFault.{CommandFault}
-use Rattle.bench_debug.specs.declared.commands.CommandFault.TheVariants as fault
+use Rattle.command_text.specs.CommandFile.{is_accepted}
+use Rattle.command_text.specs.CommandLine.{is_aligned}
+use Rattle.command_text.specs.declared.command.Command.{Command}
+use Rattle.command_text.specs.declared.command.Command.TheVariants as command
+use Rattle.command_text.specs.declared.commands.CommandFault.{CommandFault}
+use Rattle.command_text.specs.declared.commands.CommandFault.TheVariants as fault
 
 -- a command with values that a line can give it
 abbrev pub is_allowed : Command → Bool

@@ -1,6 +1,6 @@
 //! Command files, as users write them.
 
-use bench_debug::{Command, CommandFault, read_commands};
+use command_text::{Command, CommandFault, read_commands};
 use std::alloc::Global;
 
 /// Whether a text has these commands.
@@ -27,7 +27,7 @@ fn is_refused(alloc: Global, text: &[u8], line: u32) -> bool {
 
 #[test]
 fn reads_each_command(rt: HostRuntime) {
-    for (text, command) in [
+    for &(text, command) in &[
         (
             b"break 1 80000000".as_slice(),
             Command::Break {
@@ -79,7 +79,7 @@ fn reads_lines(rt: HostRuntime) {
         Command::Watch { at: 8 },
         Command::Step { cycles: 5 },
     ];
-    for text in [
+    for &text in &[
         b"cont\nwatch 8\nstep 5\n".as_slice(),
         b"cont\r\nwatch 8\r\nstep 5",
         b"\t# breaks\n\n \t cont \t\n#watch 4\nwatch\t 8\r\n \r\nstep 5\n# step 6",
@@ -92,7 +92,7 @@ fn reads_lines(rt: HostRuntime) {
 
 #[test]
 fn refuses_each_faulty_line(rt: HostRuntime) {
-    for text in [
+    for &text in &[
         b"go".as_slice(),
         b"Cont",
         b"break",
@@ -135,7 +135,7 @@ fn refuses_each_faulty_line(rt: HostRuntime) {
 
 #[test]
 fn refuses_the_first_faulty_line(rt: HostRuntime) {
-    for (text, line) in [
+    for &(text, line) in &[
         (b"cont\n# next\r\n\nregs 2\ncsr\n".as_slice(), 4),
         (b"mem 4 65\nmem 4 0", 1),
         (b"step 1\nstep -1", 2),

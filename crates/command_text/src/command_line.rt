@@ -1,8 +1,8 @@
 //! One line of a command file.
 ghost use Rattle.std.specs.Prelude.{◌≡◌, ◌<◌, IfErr, IfOk, IfSome, length, true};
 ghost use Rattle.text_fields.specs.Fields.{fields};
-ghost use Rattle.bench_debug.specs.CommandLine.{begins_comment, break_of, command_named, command_of, cont_of, csr_of, mem_of, regs_of, step_of, watch_of};
-ghost use Rattle.bench_debug.specs.CommandRead.{is_allowed};
+ghost use Rattle.command_text.specs.CommandLine.{begins_comment, break_of, command_named, command_of, cont_of, csr_of, mem_of, regs_of, step_of, watch_of};
+ghost use Rattle.command_text.specs.CommandRead.{is_allowed};
 
 use crate::arguments::{
     address, csr_address, cycles, hart, one_field, two_fields, word_address, word_count,

@@ -2,8 +2,8 @@
 use Rattle.std.proofs.Common.{ℕ, ◌+◌, List, ◌++◌, Result, Ok, Err, if◌then◌else◌}
 use Rattle.std.specs.List.{flat_map, list_all, prefix_len}
 use Rattle.text_fields.specs.Fields.{Text}
-use Rattle.bench_debug.specs.CommandFile.{is_accepted, line_commands}
-use Rattle.bench_debug.specs.declared.command.Command.{Command}
+use Rattle.command_text.specs.CommandFile.{is_accepted, line_commands}
+use Rattle.command_text.specs.declared.command.Command.{Command}
 
 -- the lines from this number on, after these commands
 abbrev pub commands_from : ℕ → List Command → List Text → Result (List Command) ℕ

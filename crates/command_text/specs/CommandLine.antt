@@ -3,9 +3,9 @@ use Rattle.std.specs.Prelude.{ℕ, ◌-◌, ◌%◌, ◌^◌, ◌==◌, Bool, fa
 use Rattle.std.specs.Str.{bytes_eq}
 use Rattle.text_fields.specs.Fields.{Text, fields}
 use Rattle.text_fields.specs.Numbers.{hex_number_of, number_of}
-use Rattle.bench_debug.specs.declared.command.Command.{Command}
-use Rattle.bench_debug.specs.declared.command.Command.TheVariants as command
-use Rattle.bench_debug.specs.declared.command_line.FaultyLine.{FaultyLine}
+use Rattle.command_text.specs.declared.command.Command.{Command}
+use Rattle.command_text.specs.declared.command.Command.TheVariants as command
+use Rattle.command_text.specs.declared.command_line.FaultyLine.{FaultyLine}
 
 -- a value, where it passes a test
 abbrev pub filtered : {A : Type 0} → (A → Bool) → Option A → Option A

@@ -1,10 +1,10 @@
 use Rattle.std.proofs.Common.{◌≡◌, ◌≤◌, ◌+◌, length, option_map, true}
 use Rattle.std.specs.List.{list_all}
 use Rattle.text_fields.specs.Lines.{left_size, lines_after}
-use Rattle.bench_debug.specs.CommandFile.{commands_of}
-use Rattle.bench_debug.specs.CommandRead.{is_allowed}
-use Rattle.bench_debug.proofs.LinesLeft.{commands_from}
-use Rattle.bench_debug.proofs.commands.read_found.Given as goal
+use Rattle.command_text.specs.CommandFile.{commands_of}
+use Rattle.command_text.specs.CommandRead.{is_allowed}
+use Rattle.command_text.proofs.LinesLeft.{commands_from}
+use Rattle.command_text.proofs.commands.read_found.Given as goal
 
 abbrev pub invariant-loop-rest : goal.invariant-loop-rest
 invariant-loop-rest l = record {

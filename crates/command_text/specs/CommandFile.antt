@@ -3,9 +3,9 @@ use Rattle.std.specs.Prelude.{ℕ, ◌+◌, Bool, List, [], ◌∷◌, Option, S
 use Rattle.std.specs.List.{flat_map, list_all, prefix_len}
 use Rattle.text_fields.specs.Fields.{Text}
 use Rattle.text_fields.specs.Lines.{lines}
-use Rattle.bench_debug.specs.CommandLine.{command_of}
-use Rattle.bench_debug.specs.declared.command.Command.{Command}
-use Rattle.bench_debug.specs.declared.command_line.FaultyLine.{FaultyLine}
+use Rattle.command_text.specs.CommandLine.{command_of}
+use Rattle.command_text.specs.declared.command.Command.{Command}
+use Rattle.command_text.specs.declared.command_line.FaultyLine.{FaultyLine}
 
 -- a line that isn't faulty
 abbrev pub is_accepted : Text → Bool

@@ -1,8 +1,8 @@
 //! Reading a command file.
 ghost use Rattle.std.specs.Prelude.{◌≡◌, ◌<◌, ◌≤◌, ◌^◌, ◌++◌, length, Ok, IfErr, IfOk, true};
 ghost use Rattle.std.specs.List.{list_all};
-ghost use Rattle.bench_debug.specs.CommandFile.{commands_of, is_accepted, line_commands};
-ghost use Rattle.bench_debug.specs.CommandRead.{IsCommandsAnswer, IsFault, IsLineFault, is_allowed};
+ghost use Rattle.command_text.specs.CommandFile.{commands_of, is_accepted, line_commands};
+ghost use Rattle.command_text.specs.CommandRead.{IsCommandsAnswer, IsFault, IsLineFault, is_allowed};
 
 use crate::command::Command;
 use crate::command_line::{FaultyLine, read_line};
@@ -28,8 +28,8 @@ pub struct Commands {
 impl Model for Commands {
     ghost use Rattle.std.specs.Prelude.{◌≡◌, List, true};
     ghost use Rattle.std.specs.List.{list_all};
-    ghost use Rattle.bench_debug.specs.CommandRead.{is_allowed};
-    ghost use Rattle.bench_debug.specs.declared.command.Command.{Command};
+    ghost use Rattle.command_text.specs.CommandRead.{is_allowed};
+    ghost use Rattle.command_text.specs.declared.command.Command.{Command};
 
     ghost Value = { List Command };
 
@@ -39,7 +39,7 @@ impl Model for Commands {
 }
 
 impl Commands {
-    ghost use Rattle.bench_debug.specs.CommandRead.{is_allowed};
+    ghost use Rattle.command_text.specs.CommandRead.{is_allowed};
 
     /// Lends the commands.
     pub fn as_slice(&self) -> &[Command]

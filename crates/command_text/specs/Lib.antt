@@ -1,0 +1,3 @@
+pub mod CommandFile
+pub mod CommandLine
+pub mod CommandRead
