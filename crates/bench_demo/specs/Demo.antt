@@ -1,8 +1,7 @@
 -- Definition: the demonstration: an image made from a number, its upload to the boot monitor, and what is shown of the run.
 use Rattle.std.specs.Prelude.{ℕ, zero, suc, ◌+◌, ◌*◌, ◌%◌, ◌^◌, List, [], ◌∷◌, ◌++◌, None, length, codes, decimal, unwrap_or}
 use Rattle.std.specs.List.{flat_map}
-use Rattle.bench_report.specs.Report.{boot_text}
-use Rattle.trace_text.specs.Lines.{end_text}
+use Rattle.trace_text.specs.Lines.{boot_text, end_text}
 use Rattle.chip_base.specs.Settings.{Values, standard}
 use Rattle.chip_base.specs.UnitTable.{unit_row}
 use Rattle.chip_base.specs.declared.boot.Boot.TheVariants.{Monitor}

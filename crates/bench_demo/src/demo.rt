@@ -1,8 +1,7 @@
 //! The demonstration.
 ghost use Rattle.std.specs.Prelude.{◌≡◌, ℕ, ◌++◌, [], length};
 ghost use Rattle.bench_demo.specs.Demo.{demo_text, made_text, number_text, run_text, serial_text, size_text, sum_text};
-ghost use Rattle.bench_report.specs.Report.{boot_text};
-ghost use Rattle.trace_text.specs.Lines.{end_text};
+ghost use Rattle.trace_text.specs.Lines.{boot_text, end_text};
 ghost use Rattle.bench_shelf.specs.Sink.{Writes};
 ghost use Rattle.chip_whole.specs.Chip.{after};
 ghost use Rattle.chip_whole.specs.Stands.{ForEach};
@@ -10,7 +9,6 @@ ghost use Rattle.chip_whole.specs.Stands.{ForEach};
 use crate::image::demo_image;
 use crate::power_on::{demo_script, demo_settings};
 use crate::run::run;
-use bench_report::boot_line;
 use bench_shelf::{Sink, SinkFault};
 use chip_base::{Boot, BootView, Groups};
 use chip_net::Chip;
@@ -20,7 +18,7 @@ use std::marker::Brand;
 use std::sync::ledger::Blank;
 use std::thread::Threads;
 use text_line::Line;
-use trace_text::{end_line, put_line};
+use trace_text::{boot_line, end_line, put_line};
 
 /// The stretches of the run, of 4,000 cycles each.
 const STRETCHES: u32 = 100;

@@ -7,13 +7,12 @@ use Rattle.spi_flash.specs.Flash.{FlashState, byte_of, flash_size}
 use Rattle.chip_hub.specs.Views.{boot_view, hart_view, issue_view}
 use Rattle.chip_whole.specs.Chip.{ChipState}
 use Rattle.chip_base.specs.declared.boot.BootView.{BootView}
-use Rattle.chip_base.specs.declared.boot.BootView.TheVariants.{Raw, Direct, Monitor as ByMonitor, Handed}
 use Rattle.chip_base.specs.declared.event.Event.{Event}
 use Rattle.chip_base.specs.declared.hart.HartView.{HartView}
 use Rattle.chip_base.specs.declared.hart.IssueRecord.{IssueRecord}
 use Rattle.chip_base.specs.declared.hart.PhaseWord.{PhaseWord}
 use Rattle.chip_base.specs.declared.hart.PhaseWord.TheVariants.{Parked}
-use Rattle.trace_text.specs.Lines.{end_text, event_text, hart_lines_text, row_text, trace_text}
+use Rattle.trace_text.specs.Lines.{boot_text, end_text, event_text, hart_lines_text, row_text, trace_text}
 use Rattle.trace_text.specs.declared.lines.RowKind.TheVariants.{Mem, Flash}
 
 -- what a report shows: the number of cycles that were run, the events in their order, how core 0 began, both harts, the bytes of both
@@ -35,12 +34,6 @@ cycles_text cycles = line (codes "cycles " ++ decimal cycles)
 -- the lines of events, in their order
 abbrev pub events_text : List Event → List ℕ
 events_text events = flat_map event_text events
-
-unfoldable pub boot_text : BootView → List ℕ
-boot_text Raw = line (codes "boot raw")
-boot_text Direct = line (codes "boot direct")
-boot_text ByMonitor = line (codes "boot monitor")
-boot_text (Handed cycle) = line (codes "boot handover " ++ decimal cycle)
 
 -- nothing for a hart that is parked
 abbrev pub unless_parked : PhaseWord → List ℕ → List ℕ

@@ -7,5 +7,4 @@ mod report;
 mod trace;
 mod whole;
 
-pub use report::boot_line;
 pub use whole::report_run;

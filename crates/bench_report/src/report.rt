@@ -3,7 +3,7 @@ ghost use Rattle.std.specs.Prelude.{◌≡◌, ◌==◌, ◌++◌};
 ghost use Rattle.std.specs.List.{list_all};
 ghost use Rattle.bench_shelf.specs.Sink.{Writes};
 ghost use Rattle.bench_report.specs.Bank.{base_of, bytes_of};
-ghost use Rattle.bench_report.specs.Report.{boot_text, cycles_text, events_text, flash_text, latest, memory_row_text, memory_text, shown_flash, trace_lines_text, unless_parked};
+ghost use Rattle.bench_report.specs.Report.{cycles_text, events_text, flash_text, latest, memory_row_text, memory_text, shown_flash, trace_lines_text, unless_parked};
 ghost use Rattle.chip_whole.specs.Stands.{ForEach};
 ghost use Rattle.trace_text.specs.Lines.{end_text, hart_lines_text};
 
@@ -11,7 +11,7 @@ use crate::bank::Bank;
 use crate::flash_rows::put_flash;
 use crate::trace::put_trace;
 use bench_shelf::{Sink, SinkFault};
-use chip_base::{BootView, Event, HartView, PhaseWord};
+use chip_base::{Event, HartView, PhaseWord};
 use chip_net::Chip;
 use chip_whole::Standing;
 use text_line::Line;
@@ -24,25 +24,6 @@ pub fn cycles_line(cycles: u32) -> Line
     let mut line = Line::new();
     line.push(b"cycles ");
     line.push_number(u64::from(cycles));
-    line.push(b"\n");
-    line
-}
-
-/// The line that tells how core 0 began.
-#[tactic(auto, unfolding(crate::specs::Report::boot_text))]
-pub fn boot_line(boot: BootView) -> Line
-    ensures { result ≡ boot_text boot }
-{
-    let mut line = Line::new();
-    match boot {
-        BootView::Raw => line.push(b"boot raw"),
-        BootView::Direct => line.push(b"boot direct"),
-        BootView::Monitor => line.push(b"boot monitor"),
-        BootView::Handed { cycle } => {
-            line.push(b"boot handover ");
-            line.push_number(cycle);
-        }
-    }
     line.push(b"\n");
     line
 }

@@ -1,6 +1,7 @@
 //! A run and its report. The events are written while the run goes on.
 ghost use Rattle.std.specs.Prelude.{◌≡◌, option_map, ◌+◌, ◌^◌, ◌<◌, ◌≤◌, ◌++◌, [], OnOk, true};
-ghost use Rattle.bench_report.specs.Report.{boot_text, cycles_text, events_text, report, shown};
+ghost use Rattle.bench_report.specs.Report.{cycles_text, events_text, report, shown};
+ghost use Rattle.trace_text.specs.Lines.{boot_text};
 ghost use Rattle.bench_shelf.specs.Sink.{Writes};
 ghost use Rattle.chip_base.specs.Settings.{values_of};
 ghost use Rattle.chip_hub.specs.Start.{fits_in};
@@ -9,7 +10,7 @@ ghost use Rattle.chip_whole.specs.Chip.{after, start};
 ghost use Rattle.chip_whole.specs.Next.{next_events};
 ghost use Rattle.chip_whole.specs.Stands.{ForEach, IsStepped};
 
-use crate::report::{boot_line, cycles_line, put_events, put_harts, put_tail};
+use crate::report::{cycles_line, put_events, put_harts, put_tail};
 use bench_parts::Part;
 use bench_shelf::{Sink, SinkFault};
 use chip_base::{Boot, Groups, Script, Setup, Steps};
@@ -19,7 +20,7 @@ use std::alloc::Global;
 use std::marker::Brand;
 use std::sync::ledger::{Blank, Ledger};
 use std::thread::Threads;
-use trace_text::put_line;
+use trace_text::{boot_line, put_line};
 
 /// The cycles of a whole stretch.
 const STRETCH: u32 = 4_096;

@@ -3,6 +3,8 @@ use Rattle.std.specs.Prelude.{◌==◌, ℕ, ◌%◌, List, [], ◌∷◌, ◌++
 use Rattle.hex.specs.Hex.{encode_lower}
 use Rattle.soc_words.specs.Text.{hex_word, line, joined_below}
 use Rattle.chip_base.specs.UnitTable.{lane_name, unit_row}
+use Rattle.chip_base.specs.declared.boot.BootView.{BootView}
+use Rattle.chip_base.specs.declared.boot.BootView.TheVariants.{Raw, Direct, Monitor as ByMonitor, Handed}
 use Rattle.chip_base.specs.declared.chip_unit.ChipUnit.TheVariants.{Uart0, Uart1}
 use Rattle.chip_base.specs.declared.event.Event.{Event}
 use Rattle.chip_base.specs.declared.event.EventKind.{EventKind}
@@ -34,6 +36,13 @@ unfoldable pub event_text : Event → Text
 event_text e =
     line (decimal e.cycle ++ codes " " ++ lane_name e.unit ++ codes " " ++ event_kind_name e.kind ++ codes " "
     ++ value_text e.unit e.value)
+
+-- the line that tells how core 0 began
+unfoldable pub boot_text : BootView → Text
+boot_text Raw = line (codes "boot raw")
+boot_text Direct = line (codes "boot direct")
+boot_text ByMonitor = line (codes "boot monitor")
+boot_text (Handed cycle) = line (codes "boot handover " ++ decimal cycle)
 
 -- the phase of a hart
 abbrev pub phase_text : PhaseWord → Text

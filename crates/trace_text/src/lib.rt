@@ -6,4 +6,6 @@ mod instruction;
 pub mod laws;
 mod lines;
 
-pub use lines::{RowKind, end_line, event_line, hart_lines, put_line, row_line, trace_line};
+pub use lines::{
+    RowKind, boot_line, end_line, event_line, hart_lines, put_line, row_line, trace_line,
+};

@@ -3,12 +3,12 @@ ghost use Rattle.std.specs.Prelude.{◌≡◌, ◌+◌, ◌≤◌, ◌++◌, len
 ghost use Rattle.soc_words.specs.Text.{hex_word, joined_below, line};
 ghost use Rattle.bench_shelf.specs.Sink.{Writes};
 ghost use Rattle.trace_text.specs.Instruction.{word_text};
-ghost use Rattle.trace_text.specs.Lines.{end_text, event_kind_name, event_text, hart_lines_text, hart_text, parked_text, phase_text, register_text, register_text_in, row_kind_name, row_text, trace_text, value_text};
+ghost use Rattle.trace_text.specs.Lines.{boot_text, end_text, event_kind_name, event_text, hart_lines_text, hart_text, parked_text, phase_text, register_text, register_text_in, row_kind_name, row_text, trace_text, value_text};
 
 use crate::instruction::{push_issued, push_short_number, push_word_digits};
 use bench_shelf::{Sink, SinkFault};
 use chip_base::chip_unit::lane_name;
-use chip_base::{ChipUnit, Event, EventKind, HartView, IssueRecord, PhaseWord};
+use chip_base::{BootView, ChipUnit, Event, EventKind, HartView, IssueRecord, PhaseWord};
 use text_line::Line;
 
 /// What a row of bytes stands in.
@@ -25,6 +25,25 @@ pub fn put_line<O: Sink>(line: &Line, out: &mut O) -> Result<(), SinkFault>
     ensures { Writes O.written O.faults out.old out.new line.now result }
 {
     out.put(line.as_slice())
+}
+
+/// The line that tells how core 0 began.
+#[tactic(auto, unfolding(crate::specs::Lines::boot_text))]
+pub fn boot_line(boot: BootView) -> Line
+    ensures { result ≡ boot_text boot }
+{
+    let mut line = Line::new();
+    match boot {
+        BootView::Raw => line.push(b"boot raw"),
+        BootView::Direct => line.push(b"boot direct"),
+        BootView::Monitor => line.push(b"boot monitor"),
+        BootView::Handed { cycle } => {
+            line.push(b"boot handover ");
+            line.push_number(cycle);
+        }
+    }
+    line.push(b"\n");
+    line
 }
 
 /// The last line of a text of several lines.

@@ -1,5 +1,4 @@
-use Rattle.bench_report.specs.Report.{boot_text}
-use Rattle.trace_text.specs.Lines.{end_text}
+use Rattle.trace_text.specs.Lines.{boot_text, end_text}
 use Rattle.bench_shelf.proofs.Writing.{writes_exit, writes_stop, writes_then}
 use Rattle.bench_demo.specs.Demo.{sum_text}
 use Rattle.bench_demo.proofs.demo.put_run.Goals as goal

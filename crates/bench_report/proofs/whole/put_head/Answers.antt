@@ -2,7 +2,8 @@ use Rattle.bench_shelf.proofs.Writing.{writes_then, writes_stop, writes_exit}
 use Rattle.chip_hub.specs.Views.{boot_view}
 use Rattle.chip_whole.specs.Chip.{after}
 use Rattle.chip_whole.specs.Next.{next_events}
-use Rattle.bench_report.specs.Report.{events_text, boot_text}
+use Rattle.bench_report.specs.Report.{events_text}
+use Rattle.trace_text.specs.Lines.{boot_text}
 use Rattle.bench_report.proofs.whole.put_head.Goals as goal
 
 pub returns-in_err-put_line-clause-writes : goal.returns-in_err-put_line-clause-writes
