@@ -88,7 +88,7 @@ fn scanned<'a>(alloc: Global, text: &'a [u8]) -> Result<Option<(Vec<u8>, &'a [u8
                 return Ok(Some((found, rest)));
             }
             Comes::Gives(byte) => {
-                found.extend_from_slice(&[byte])?;
+                found.push(byte)?;
                 place = Place::Plain;
             }
             Comes::Goes(next) => place = next,
