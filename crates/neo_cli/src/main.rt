@@ -37,11 +37,7 @@ use std::{env, io};
 
 /// The words after the program's name.
 fn arguments(rt: &HostRuntime) -> io::Result<Vec<String>> {
-    let mut words: Vec<String> = Vec::new(rt.alloc());
-    for word in env::args(rt)?.skip(1) {
-        words.push(word)?;
-    }
-    Ok(words)
+    Ok(env::args(rt)?.skip(1).collect(rt.alloc())?)
 }
 
 /// Hands in one part more, where the text is a name.
