@@ -32,10 +32,10 @@ pub fn read_settings<S: Shelf>(
 pub fn read_room<S: Shelf>(alloc: Global, name: Option<&str>, shelf: &mut S) -> Result<u32, Stop>
     ensures { Reads S.held shelf.old shelf.new (room_reading (option_map (λ s. s.now) name.entry)) result }
 {
-    let Some(_) = name else {
+    let Some(name) = name else {
         return Ok(1_048_576);
     };
-    let setup = read_settings(alloc, name, shelf)?;
+    let setup = read_settings(alloc, Some(name), shelf)?;
     Ok(setup.imem)
 }
 
